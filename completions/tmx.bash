@@ -6,9 +6,10 @@ _tmx_options() {
     case $1 in
     frames) echo "--settings -h --help" ;;
     summary) echo "--settings --strict -h --help" ;;
-    packets | extract) echo "--settings --report --checkpoint --stop-after --resume --strict -h --help" ;;
+    packets) echo "--settings --binary --report --checkpoint --stop-after --resume --strict -h --help" ;;
+    extract) echo "--settings --report --checkpoint --stop-after --resume --strict -h --help" ;;
     split) echo "--settings --dir --report --checkpoint --stop-after --resume --strict -h --help" ;;
-    fields) echo "--settings --definition --apid --report --checkpoint --stop-after --resume --strict -h --help" ;;
+    fields) echo "--settings --definition --apid --binary --report --checkpoint --stop-after --resume --strict -h --help" ;;
     *) echo "-h --help -V --version" ;;
     esac
 }

@@ -32,6 +32,9 @@ set -l command '__tmx_command_is fields'
 complete -c tmx -n $command -l definition -r -F -d 'The definition of the fields'
 complete -c tmx -n $command -l apid -x -d 'The application, 0 to 2047'
 
+set -l command '__tmx_command_is packets fields'
+complete -c tmx -n $command -l binary -d 'Octets in place of lines or rows'
+
 set -l command '__tmx_command_is packets extract split fields'
 complete -c tmx -n $command -l report -r -F -d 'The file of the report'
 complete -c tmx -n $command -l checkpoint -r -F -d 'The checkpoint to write after the run'

@@ -34,6 +34,9 @@ _tmx() {
         options+=('--definition=[the definition of the fields]:FILE:_files')
         options+=('--apid=[the application, 0 to 2047]:N:')
         ;|
+    packets|fields)
+        options+=('--binary[octets in place of lines or rows]')
+        ;|
     packets|extract|split|fields)
         options+=('--report=[the file of the report]:FILE:_files')
         options+=('--checkpoint=[the checkpoint to write after the run]:FILE:_files')

@@ -62,8 +62,10 @@ def wanted(reader, application):
     report = text_of(reader.report_of(None))
     return {
         "packets": (text_of(it[2] for it in reader.packets), report),
+        "packets --binary": (b"".join(reference.binary_packets(reader.packets)), report),
         "extract": (b"".join(it[1] for it in reader.packets), report),
         "fields": (text_of(reference.rows(reader.packets, application)), text_of(reader.report_of(application))),
+        "fields --binary": (b"".join(reference.binary_rows(reader.packets, application)), text_of(reader.report_of(application))),
     }
 
 
@@ -116,8 +118,8 @@ def compare(tmx, definition, seed, folder):
     in_steps = wanted(stopped, application)
     number, wrong = compare_whole(tmx, settings, reader, len(recording), folder)
     for command, both in wanted(reader, application).items():
-        words = [tmx, command, "--settings", "settings"]
-        if command == "fields":
+        words = [tmx, *command.split(), "--settings", "settings"]
+        if command.startswith("fields"):
             words += ["--definition", definition, "--apid", str(application)]
         number += 2
         if run(words, folder) != (0, *both) or run_in_steps(words, kept, folder) != (0, *in_steps[command]):

@@ -24,10 +24,11 @@ PROGRAM = '#!/bin/sh\necho $$ >number.new\nmv number.new number\nexec {} "$@"\n'
 
 
 def commands_of_readme():
-    """The block of README.md that runs nc, without what it is indented by."""
-    blocks = [it for it in re.findall(r"(?:^ {4}.*\n)+", README.read_text(encoding="utf-8"), re.M) if "nc -l" in it]
+    """The block of README.md that runs nc and tmx, without what it is indented by."""
+    blocks = re.findall(r"(?:^ {4}.*\n)+", README.read_text(encoding="utf-8"), re.M)
+    blocks = [it for it in blocks if "nc -l" in it and " tmx packets " in it]
     if len(blocks) != 1:
-        raise SystemExit(f"README.md has {len(blocks)} blocks with nc, not one")
+        raise SystemExit(f"README.md has {len(blocks)} blocks with nc and tmx, not one")
     return re.sub(r"^ {4}", "", blocks[0], flags=re.M)
 
 

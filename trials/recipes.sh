@@ -46,7 +46,6 @@ is_there() {
     coreutils) command -v tail ;;
     mawk) command -v awk ;;
     miller) command -v mlr ;;
-    gnuplot-nox) command -v gnuplot ;;
     python3-*) python3 -c "import ${1#python3-}" ;;
     *) command -v "$1" ;;
     esac >/dev/null 2>&1

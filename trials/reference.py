@@ -14,6 +14,7 @@ Nothing of tmx is used here but its documents.  Python 3.11 or later, for its re
 import os
 import random
 import re
+import struct
 import sys
 import tomllib
 from binascii import crc_hqx
@@ -397,6 +398,34 @@ def rows(packets, wanted):
             yield ",".join([start] + [in_csv(value_of(octets, *it[1:])) for it in fields])
 
 
+# The binary forms.
+
+
+def octets_of(packet, kind, bits, first):
+    number = int.from_bytes(packet, "big") >> (len(packet) * 8 - first - bits) & (1 << bits) - 1
+    if kind == "str":
+        return number.to_bytes(bits // 8, "big")
+    if kind == "int" and number >> (bits - 1):
+        number -= 1 << bits
+    fewest = next(it for it in (1, 2, 4, 8) if bits <= 8 * it)
+    return number.to_bytes(fewest, "little", signed=kind == "int")
+
+
+def binary_packets(packets):
+    for _, octets, line, _ in packets:
+        said = dict(it.split("=") for it in line.split()[1:])
+        yield struct.pack("<IIHBxI", *(int(said[it]) for it in ("record", "from", "at", "channel")), len(octets)) + octets
+
+
+def binary_rows(packets, wanted):
+    fields = [it for it in FIELDS if it[1] != "fill"]
+    for application, octets, _, start in packets:
+        if application == wanted and len(octets) * 8 >= NEEDED:
+            number, channel, _, count = map(int, start.split(","))
+            lead = struct.pack("<IHHB7x", number, application, count, channel)
+            yield lead + b"".join(octets_of(octets, *it[1:]) for it in fields)
+
+
 # The summary, counted from the lines of frames, of packets and of the report.
 
 REASONS = ("pointer", "gap", "vca", "end", "no-start", "version", "length")
@@ -564,6 +593,10 @@ def expect(settings, recording, folder):
     write_lines(f"{folder}/fields.report", reader.report_of(wanted))
     with open(f"{folder}/extract", "wb") as file:
         file.writelines(it[1] for it in reader.packets)
+    with open(f"{folder}/packets.octets", "wb") as file:
+        file.writelines(binary_packets(reader.packets))
+    with open(f"{folder}/fields.octets", "wb") as file:
+        file.writelines(binary_rows(reader.packets, wanted))
     files = {}
     for application, octets, _, _ in reader.packets:
         files.setdefault(application, []).append(octets)

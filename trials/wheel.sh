@@ -20,6 +20,7 @@ wheel=$work/${wheel##*/} packets=$work/${packets##*/}
 cd "$work/empty" || exit 2
 tried=0
 what="import sys; print('%d%03d%03d' % sys.version_info[:3], sys.executable)"
+picture=(--title "The example recording" --settings "$work/settings.toml" "$work/pass.rec")
 recording="tmx.Recording('$work/pass.rec', '$work/settings.toml')"
 
 # tell NAME WRONG: says how a trial went.
@@ -53,10 +54,8 @@ try_place() {
     tell "$1: the package gives the packets" "$(bare "${@:3}" -c "import tmx; print(*$recording.packets(), sep='\n')" | cmp - "$packets" 2>&1)"
     tell "$1: the program beside it is run" "$(bare "${@:3}" -c "import tmx; print(tmx.program().by)" | cmp - <(echo package) 2>&1)"
     tell "$1: the command tmx" "$(bare "$2" packets --settings "$work/settings.toml" --report /dev/null "$work/pass.rec" | cmp - "$packets" 2>&1)"
-    tell "$1: python -m tmx" "$(bare "${@:3}" -m tmx map --title "The example recording" --settings "$work/settings.toml" "$work/pass.rec" |
-        cmp - "$work/loss_map.svg" 2>&1)"
-    tell "$1: the command tmx-map" "$(bare "${2%/*}/tmx-map" --title "The example recording" --settings "$work/settings.toml" "$work/pass.rec" |
-        cmp - "$work/loss_map.svg" 2>&1)"
+    tell "$1: python -m tmx" "$(bare "${@:3}" -m tmx map "${picture[@]}" | cmp - "$work/loss_map.svg" 2>&1)"
+    tell "$1: the command tmx-map" "$(bare "${2%/*}/tmx-map" "${picture[@]}" | cmp - "$work/loss_map.svg" 2>&1)"
     [[ $with_library = no ]] ||
         tell "$1: the library beside it" \
             "$(bare "${@:3}" -c "import tmx; print(tmx.Engine('$work/settings.toml').close())" | cmp - <(echo "Given(packets=[], report=[])") 2>&1)"

@@ -55,6 +55,14 @@ no_clash() {
 }
 
 clashes() {
+    # guards: when-two-places-are-one
+    # guards: which-places-of-a-run-clash
+    # guards: how-the-place-of-a-name-is-found
+    # guards: put-holds-the-octets-or-writes-them
+    # guards: no-file-of-the-run-is-overwritten-by-an-applications
+    # guards: check_names-and-check_errors-find-the-first-clash
+    # guards: what-is-checked-and-opened-before-a-run
+    # guards: each-step-has-only-its-own-faults
     local used="$tmx packets --settings own/s.toml" rows="$tmx fields --settings own/s.toml --definition own/f.csv --apid 101"
     names
     report_clashes

@@ -138,6 +138,15 @@ no_folder() {
 }
 
 devices() {
+    # guards: devices-over-stds-readers-and-writers
+    # guards: the-contracts-that-devices-keep
+    # guards: output-writes-the-piece-of-each-item-it-takes
+    # guards: write_summary-writes-the-lines-of-the-numbers
+    # guards: summarize-writes-the-recordings-summary
+    # guards: faults-name-the-file-as-it-was-given
+    # guards: what-a-plan-decides-before-any-file-is-opened
+    # guards: what-is-checked-and-opened-before-a-run
+    # guards: each-step-has-only-its-own-faults
     # Opens a pipe that nobody reads as 4: 3 reads it only until 4 is open.
     local command room unheard="mkfifo pipe; exec 3<>pipe 4>pipe 3<&-; rm pipe"
     names

@@ -33,6 +33,20 @@ manual_lacks() {
 }
 
 faults() {
+    # guards: fault-lines-and-exit-statuses
+    # guards: definitionread-gives-the-fields-or-the-refusal
+    # guards: settingsread-gives-the-settings-or-the-refusal
+    # guards: summarize-writes-the-recordings-summary
+    # guards: a-jobs-checkpoint-is-written-and-read
+    # guards: plan-gives-the-plan-that-the-words-ask-for
+    # guards: put-holds-the-octets-or-writes-them
+    # guards: check_names-and-check_errors-find-the-first-clash
+    # guards: faults-name-the-file-as-it-was-given
+    # guards: what-a-plan-decides-before-any-file-is-opened
+    # guards: what-is-checked-and-opened-before-a-run
+    # guards: a-run-with-ok-had-names-that-dont-clash
+    # guards: each-fault-traces-to-a-word-or-a-file
+    # guards: each-step-has-only-its-own-faults
     names
     usage_faults
     settings_faults
@@ -478,6 +492,9 @@ END
 
 # Sparse recordings of 38 GB. The records that are done are passed over, so that the last ones take no longer than the first. And many whole frames.
 many() {
+    # guards: refusals-and-the-closed-end
+    # guards: devices-over-stds-readers-and-writers
+    # guards: run-stops-at-one-place-in-both-outputs
     local head="544d5843 03 002a 0009 0000 0000 00 00 00 ff 010006" none="00 0000000000000000 0000"
     names
     settings nine 42 9 false

@@ -15,6 +15,12 @@ refused() {
 }
 
 files() {
+    # guards: definitionread-gives-the-fields-or-the-refusal
+    # guards: settingsread-gives-the-settings-or-the-refusal
+    # guards: a-jobs-checkpoint-is-written-and-read
+    # guards: faults-name-the-file-as-it-was-given
+    # guards: each-step-has-only-its-own-faults
+    # guards: a-run-with-ok-has-replaced-the-checkpoints-file
     local seed octets
     names
     for seed in 1 2 3 4; do

@@ -31,28 +31,31 @@ print(f"{len(pages)} pages with {links} links" if links < 200 else "", end="")
 END
 }
 
-# The manual page as a reader shows it that is there, without bold and underlined letters. The status is 1 where none is.
-show_page() {
-    if command -v mandoc >/dev/null; then
-        mandoc -T ascii "$1"
-    elif man --version | grep -q '^man '; then
-        man -l "$1"
-    elif command -v groff >/dev/null; then
-        zcat -f "$1" | GROFF_NO_SGR=1 groff -mandoc -T ascii
-    else
-        return 1
-    fi >shown 2>/dev/null
-    sed $'s/.\b//g' shown >page
-}
-
-# The name of a trial, and a manual page: a reader shows it, with these words.
+# The name of a trial, and a manual page: a reader shows it, with these words, without bold and underlined letters.
 page_is_read() {
     local word
-    if ! show_page "$2"; then
+    if command -v mandoc >/dev/null; then
+        mandoc -T ascii "$2" >page 2>/dev/null
+    elif man --version | grep -q '^man '; then
+        man -l "$2" >page 2>/dev/null
+    elif command -v groff >/dev/null; then
+        zcat -f "$2" | GROFF_NO_SGR=1 groff -mandoc -T ascii >page 2>/dev/null
+    else
         skip 1 "$1" "no mandoc, man or groff"
         return
     fi
+    sed -i $'s/.\b//g' page
     tell "$1" "$(for word in "EXIT STATUS" summary stop-after max_packet; do grep -q -- "$word" page || echo "no $word"; done)"
+}
+
+# in_the_way NAME PREFIX FILE: an installation is refused, since this file is somebody else's.
+in_the_way() {
+    gives "$1" 1 "install: $PWD/$2/$3 is there, and ./install didn't put it there: move it away first" "tree/install --prefix $2"
+}
+
+# stays NAME PREFIX FILE: a removal says that this file stays.
+stays() {
+    gives "$1" 0 "install: $PWD/$2/$3 stays: it was changed, so remove it yourself" "tree/install --remove --prefix $2"
 }
 
 # What is refused: status, and one line that says why; and nothing is made.
@@ -62,14 +65,15 @@ refused_installs() {
         gives "install with the words $words" 2 "$usage" "tree/install $words"
     done
     gives "package with a word" 2 "usage: ./package" "tree/package all"
-    gives "install before the program is built" 1 "install: neither the program nor the library is built: run ./build or ./build lib first, in $PWD/tree" "tree/install --prefix p"
+    gives "install before the program is built" 1 "install: neither the program nor the library is built: \
+run ./build or ./build lib first, in $PWD/tree" "tree/install --prefix p"
     cp "$tmx" tree/crates/tmx/out/tmx
     gives "removal of what wasn't installed" 1 "install: ./install put nothing below $PWD/p" "tree/install --remove --prefix p"
-    gives "install below a file" 1 "install: $PWD/page/p/bin can't be written" "touch page && tree/install --prefix page/p"
-    # It is known before or at the first folder, by who runs it.
+    touch file
+    gives "install below a file" 1 "mkdir: cannot create directory '$PWD/file': Not a directory" "tree/install --prefix file/p"
     tell "install where no folder can be made" \
-        "$(tree/install --prefix /proc/tmx 2>&1 | grep -vxE "install: /proc/tmx(/bin can't be written| can't be made)")"
-    tell "what is refused makes nothing" "$(ls -d p 2>/dev/null)"
+        "$(tree/install --prefix /proc/tmx 2>&1 | grep -q "^mkdir: .*'/proc/\.tmx" || echo "that isn't said")"
+    tell "what is refused makes nothing" "$(find . -name p -o -name '.tmx*')"
 }
 
 # Installs below a prefix with a space, from another folder, twice, and takes all away.
@@ -81,10 +85,10 @@ by_prefix() {
     tell "the installed program runs on the installed example" "$(runs_there "$to")"
     page_is_read "the installed manual page can be read" "$to/share/man/man1/tmx.1"
     tell "each link of an installed page leads somewhere" "$(loose_links "$to" 2>&1)"
-    tell "the list names what was installed" "$(cd "$to" && sed -n 's/^file \S* //p' share/doc/tmx/installed-files |
-        sort | diff - <(find . -type f -printf '%P\n' | grep -v /installed-files | LC_ALL=C sort))"
+    tell "the list has the sums of what was installed" "$(cd "$to" && sha256sum --check --quiet "$list" 2>&1
+        find . -type f ! -path "./$list" -printf '%P\n' | sort | diff - <(sed -n 's/^[^#]*  //p' "$list"))"
     tell "all may read what was installed, and run the program" \
-        "$(find "$to/bin" "$to/share/"* \( -type d -o -path "$to/bin/tmx" \) ! -perm 755 -o -type f ! -path "$to/bin/tmx" ! -perm 644)"
+        "$(find "$to" \( -type d -o -path "$to/bin/tmx" \) ! -perm 755 -o -type f ! -path "$to/bin/tmx" ! -perm 644)"
     stands "$to" >first
     gives "install once more" 0 "" "cd / && '$PWD/tree/install' --prefix='$PWD/$to'"
     tell "install once more: all is the same" "$(stands "$to" | diff first - 2>&1)"
@@ -95,20 +99,20 @@ by_prefix() {
 
 # Files of somebody else: they are neither written over nor taken away.
 foreign_files() {
+    local page=share/doc/tmx/README.md
     mkdir -p q/bin
     echo foreign >q/bin/tmx
-    gives "install over a foreign file" 1 "install: $PWD/q/bin/tmx is there, and ./install didn't put it there: move it away first" "tree/install --prefix q"
-    tell "install over a foreign file: it stays, and nothing else is made" "$(echo foreign | cmp - q/bin/tmx 2>&1; find q -mindepth 1 ! -path 'q/bin*')"
+    in_the_way "install over a foreign file" q bin/tmx
+    tell "install over a foreign file: it stays, and nothing else is made" \
+        "$(echo foreign | cmp - q/bin/tmx 2>&1; find q -mindepth 1 ! -path 'q/bin*')"
     rm q/bin/tmx
     gives "install where it stood" 0 "" "tree/install --prefix q"
-    echo foreign | tee q/share/doc/tmx/example/foreign >q/share/doc/tmx/README.md
-    gives "install over a file that was changed" 1 "install: $PWD/q/share/doc/tmx/README.md is there, and ./install didn't put it there: move it away first" \
-        "tree/install --prefix q"
-    gives "removal beside foreign files" 0 "install: $PWD/q/share/doc/tmx/README.md stays: it was changed" "tree/install --remove --prefix q"
+    echo foreign | tee q/share/doc/tmx/example/foreign >q/$page
+    in_the_way "install over a file that was changed" q $page
+    stays "removal beside foreign files" q $page
     tell "removal beside foreign files: they stay, and nothing else" \
-        "$(find q ! -type d | sort | diff - <(printf '%s\n' q/share/doc/tmx/{README.md,example/foreign}))"
-    gives "install where a changed file stayed" 1 "install: $PWD/q/share/doc/tmx/README.md is there, and ./install didn't put it there: move it away first" \
-        "tree/install --prefix q"
+        "$(find q ! -type d | sort | diff - <(printf '%s\n' q/$page q/share/doc/tmx/example/foreign))"
+    in_the_way "install where a changed file stayed" q $page
 }
 
 # A link where the program stood, to that program: it is somebody else's too.
@@ -116,18 +120,22 @@ foreign_link() {
     tree/install --prefix k >/dev/null
     mv k/bin/tmx copy
     ln -s "$PWD/copy" k/bin/tmx
-    gives "install over a link to the program" 1 "install: $PWD/k/bin/tmx is there, and ./install didn't put it there: move it away first" "tree/install --prefix k"
-    gives "removal beside a link to the program" 0 "install: $PWD/k/bin/tmx stays: it was changed" "tree/install --remove --prefix k"
+    in_the_way "install over a link to the program" k bin/tmx
+    stays "removal beside a link to the program" k bin/tmx
     tell "removal beside a link to the program: it stays, and nothing else" \
         "$(find k ! -type d ! -lname "$PWD/copy"; [ -L k/bin/tmx ] || echo "no link")"
 }
 
-# A newer installation in the place of an older one, whose list knows a further sum: nothing of it stays.
+# A newer installation in the place of an older one, whose list has the form that it had before: nothing of it stays.
 newer() {
     tree/install --prefix n >/dev/null
-    echo "file 0 share/doc/tmx/README.md" >>n/share/doc/tmx/installed-files
+    sed -Ei 's/^# /folder - /; s/^(\w{64})  /file \1 /' "n/$list"
+    echo "file 0 share/doc/tmx/README.md" >>"n/$list"
+    stands n >before
     mv tree/docs/FRAMES.md tree/docs/NEWER.md
     echo newer >>tree/README.md
+    tell "install of newer files without room: all is as it was" \
+        "$({ (ulimit -f 20; tree/install --prefix n) && echo "it is installed"; } 2>/dev/null; stands n | diff before - 2>&1)"
     gives "install of newer files" 0 "" "tree/install --prefix n"
     tree/install --prefix fresh >/dev/null
     tell "install of newer files: all is as in a new place" "$(stands n | diff - <(stands fresh) | grep '^[<>]' | grep -v installed-files)"
@@ -136,72 +144,59 @@ newer() {
     tell "removal of newer files: nothing is left" "$(ls -d n 2>/dev/null)"
 }
 
-# A tool of this name that has its caller ended by a signal, once it was called so many times. `cp` has then copied ten octets.
-ending_tool() {
-    rm -rf stops
-    mkdir stops
-    cat >"stops/$1" <<END
-#!/bin/bash
-echo >>"$PWD/stops/calls"
-"$(command -v "$1")" "\$@" || exit
-[ "\$(wc -l <"$PWD/stops/calls")" = $2 ] || exit 0
-[ $1 != cp ] || truncate -s 10 "\${!#}"
-kill -TERM \$PPID
-END
-    chmod 755 "stops/$1"
-}
-
-# What is wrong with an installation that is ended so. Its list names what it put, which can be taken away.
+# What is wrong with an installation that a signal ends once it has called a tool so many times. Its list names what it
+# put, which can be taken away.
 wrong_end() {
-    local list=share/doc/tmx/installed-files status=0
-    PATH=$PWD/stops:$PATH tree/install --prefix e >out 2>&1 || status=$?
-    [ "$status $(wc -l <stops/calls)" = "1 $1" ] || echo "it doesn't end there: status $status: $(cat out)"
-    echo $list >known
-    [ ! -e e/$list ] || sed -n 's/^file \S* //p' e/$list >>known
+    local status=0
+    echo "calls=0; $1() { command $1 \"\$@\" || return; [ \$((calls += 1)) != $2 ] || kill -TERM \$\$; }" >stop
+    BASH_ENV=$PWD/stop tree/install --prefix e >out 2>&1 || status=$?
+    [ "$status:$(cat out)" = 1: ] || echo "it doesn't end there: status $status: $(cat out)"
+    echo "$list" >known
+    [ ! -e "e/$list" ] || sed -n 's/^[^#]*  //p' "e/$list" >>known
     [ ! -e e ] || find e -type f -printf '%P\n' | grep -vxFf known
-    [ ! -e e/$list ] || { tree/install --remove --prefix e >/dev/null; } 2>&1
-    [ ! -e e ] || find e
+    [ ! -e "e/$list" ] || { tree/install --remove --prefix e >/dev/null; } 2>&1
+    find . -maxdepth 1 -name e -o -name '.tmx*'
 }
 
-# Installations that are ended by a signal: at their first folders, at the list, in the first and the fifth file, and behind one.
+# Installations that are ended: where pages are staged, at the first folders, at the list, in front of files, and behind one.
 ended() {
     local place
-    for place in "mkdir 1" "mkdir 3" "mv 1" "cp 1" "cp 5" "mv 3"; do
+    for place in "find 1" "mkdir 1" "mkdir 3" "mv 1" "mv 2" "mv 6"; do
         # shellcheck disable=SC2086
-        ending_tool $place
-        tell "an installation that is ended by a signal at $place leaves nothing" "$(wrong_end "${place#* }")"
+        tell "an installation that is ended by a signal at $place leaves nothing" "$(wrong_end $place)"
         rm -rf e
     done
 }
 
-# Installs below DESTDIR, and takes all away in another place. The folder of that place wasn't made by ./install.
+# Installs below DESTDIR, and takes all away in another place.
 by_destdir() {
+    mkdir -p stage/s/opt
     gives "install below DESTDIR" 0 "" "DESTDIR=$PWD/stage/s tree/install --prefix /opt/tmx"
     tell "the program below DESTDIR runs" "$(runs_there stage/s/opt/tmx)"
-    mkdir moved
-    mv stage/s moved
+    mv stage moved
     gives "removal below another DESTDIR" 0 "" "DESTDIR=moved/s tree/install --remove --prefix /opt/tmx"
-    tell "removal below another DESTDIR: nothing is left" "$(find moved -mindepth 1)"
+    tell "removal below another DESTDIR: nothing is left" "$(find moved -mindepth 3; [ -d moved/s/opt ] || echo "its folder isn't there")"
 }
 
 # The library goes along where it was made, and alone where the program wasn't.
 with_library() {
-    local header="[include/tmx.h](../../../../include/tmx.h)"
+    local files=(include/tmx.h lib/libtmx.a lib/libtmx.so lib/pkgconfig/tmx.pc)
     mkdir tree/out
     echo archive >tree/out/libtmx.a
     echo shared >tree/out/libtmx.so
     mv tree/crates/tmx/out/tmx built
     gives "install of the library alone" 0 "" "tree/install --prefix l"
     tell "install of the library alone: it is there, and nothing of the program" \
-        "$(cd l && find . -path ./share/doc -prune -o -type f -printf '%P\n' | sort | diff - <(printf '%s\n' include/tmx.h lib/libtmx.{a,so} lib/pkgconfig/tmx.pc))"
+        "$(cd l && find . -path ./share/doc -prune -o -type f -printf '%P\n' | sort | diff - <(printf '%s\n' "${files[@]}"))"
     mv built tree/crates/tmx/out/tmx
     tree/install --prefix l >/dev/null
     tell "the library is installed where it was made" \
-        "$(cd l && find lib include -type f | sort | diff - <(printf '%s\n' include/tmx.h lib/libtmx.a lib/libtmx.so lib/pkgconfig/tmx.pc))"
-    tell "a page's link to the header leads there" "$(grep -qF "$header" l/share/doc/tmx/docs/LIBRARY.md || echo "no $header"; loose_links l 2>&1)"
+        "$(cd l && find lib include -type f | sort | diff - <(printf '%s\n' "${files[@]}"))"
+    tell "a page's link to the header leads there" \
+        "$(grep -qF "[include/tmx.h](../include/tmx.h)" l/share/doc/tmx/docs/LIBRARY.md || echo "no link"; loose_links l 2>&1)"
     if command -v pkg-config >/dev/null; then
-        tell "pkg-config finds it" \
-            "$(PKG_CONFIG_PATH=$PWD/l/lib/pkgconfig pkg-config --cflags --libs tmx 2>&1 | tr ' ' '\n' | grep -cx -- "-[IL]$PWD/l/.*" | grep -vx 2)"
+        tell "pkg-config finds it" "$(PKG_CONFIG_PATH=$PWD/l/lib/pkgconfig pkg-config --cflags --libs tmx 2>&1 |
+            tr ' ' '\n' | grep -cx -- "-[IL]$PWD/l/.*" | grep -vx 2)"
     else
         skip 1 "pkg-config finds it" "no pkg-config"
     fi
@@ -248,13 +243,13 @@ as_packages() {
     of_debian "$file"
     with_python "$python"
     newest=$(objdump -T root/usr/bin/tmx | grep -oE 'GLIBC_[0-9.]+' | sort -Vu | tail -n 1 | tr . _)
-    tell "the wheel's name has the C library that the program needs" "$(grep -v -- "-manylinux_${newest#GLIBC_}_" <<<"$wheel")"
+    tell "the wheel's name has the C library that the program needs" "$(grep -q -- "-manylinux_${newest#GLIBC_}_" <<<"$wheel" || echo "$wheel isn't of $newest")"
     part wheel.sh "$here/wheel.sh" "$wheel" expected/packets
 }
 
 # The package for Debian.
 of_debian() {
-    tell "the package's fields" "$(dpkg-deb -f "$1" Package Version Depends Maintainer |
+    tell "the package's fields" "$(dpkg-deb -f "$1" Package Version Depends Maintainer 2>&1 |
         grep -vE "^(Package: tmx|Version: $version-1|Depends: libc6 \(>= 2\.[0-9]+\)(, [a-z0-9.+-]+)*|Maintainer: .+ <.+>)$")"
     dpkg-deb -x "$1" root
     tell "the program of the package runs" "$(runs_there root/usr)"
@@ -270,22 +265,26 @@ of_debian() {
     tell "each link of a page of the package leads somewhere" "$(loose_links root/usr 2>&1)"
 }
 
+# What is wrong with the picture of the example that this program in Python draws, of the package.
+drawn_by() {
+    (cd / && env -u TMX PATH="$folder/root/usr/bin:$PATH" PYTHONPATH="$folder/root/usr/lib/python3/dist-packages" \
+        python3 -B "$@" --title "The example recording" --settings "$s" "$rec") 2>&1 | cmp - "$here/../docs/loss_map.svg" 2>&1
+}
+
 # The package for Debian with the package for Python, beside the program of the other.
 with_python() {
-    tell "the fields of the package for Python" "$(dpkg-deb -f "$1" Package Version Architecture Depends |
+    tell "the fields of the package for Python" "$(dpkg-deb -f "$1" Package Version Architecture Depends 2>&1 |
         grep -vxE "Package: python3-tmx|Version: $version-1|Architecture: all|Depends: python3 \(>= 3\.11\), tmx \(= $version-1\)")"
     dpkg-deb -x "$1" root
-    tell "python3 -m tmx of the package" "$(cd / && env -u TMX PATH="$folder/root/usr/bin:$PATH" PYTHONPATH="$folder/root/usr/lib/python3/dist-packages" \
-        python3 -B -m tmx map --title "The example recording" --settings "$s" "$rec" 2>&1 | cmp - "$here/../docs/loss_map.svg" 2>&1)"
-    tell "tmx-map of the package" "$(cd / && env -u TMX PATH="$folder/root/usr/bin:$PATH" PYTHONPATH="$folder/root/usr/lib/python3/dist-packages" \
-        python3 -B "$folder/root/usr/bin/tmx-map" --title "The example recording" --settings "$s" "$rec" 2>&1 | cmp - "$here/../docs/loss_map.svg" 2>&1)"
+    tell "python3 -m tmx of the package" "$(drawn_by -m tmx map)"
+    tell "tmx-map of the package" "$(drawn_by "$folder/root/usr/bin/tmx-map")"
     dpkg-deb -e "$1" control
     tell "the package for Python is compiled where it is installed, and leaves nothing" \
-        "$(grep -L "py3compile -p python3-tmx" control/postinst; grep -L "py3clean -p python3-tmx" control/prerm)"
+        "$({ grep -L "py3compile -p python3-tmx" control/postinst; grep -L "py3clean -p python3-tmx" control/prerm; } 2>&1)"
 }
 
 install() {
-    local version differs
+    local version differs list=share/doc/tmx/installed-files
     names
     version=$("$tmx" --version | sed -n '1s/^tmx //p')
     # What Debian wants otherwise: no symbols, names of changelogs, which README links to, what is compressed, zsh's folder; and it keeps lists itself.
@@ -307,5 +306,5 @@ install() {
     else
         skip 18 "the packages" "no dpkg-deb, or no strip"
     fi
-    plan 76
+    plan 77
 }

@@ -2,6 +2,13 @@
 # Group `killed`: runs that a signal ends, and that are resumed.
 
 killed() {
+    # guards: devices-over-stds-readers-and-writers
+    # guards: a-resumed-job-gives-what-one-run-gives
+    # guards: write_held-and-write_out-leave-nothing-held
+    # guards: what-a-plan-decides-before-any-file-is-opened
+    # guards: a-run-starts-from-its-inputs
+    # guards: what-a-run-does-follows-the-plan
+    # guards: a-run-with-ok-has-replaced-the-checkpoints-file
     local command round more long=$folder/long.rec
     for _ in $(seq 600); do cat "$example/pass.rec"; done >"$long"
     for command in packets extract fields split; do

@@ -52,8 +52,9 @@ library_examples() {
     else
         skip 1 "the header in C++17" "no g++"
     fi
-    tell "the page has the program that is tried" \
-        "$(sed -n '/^```c$/,/^```$/p' "$here/../docs/LIBRARY.md" | sed '/^```/d' | diff - "$here/../library/extract.c" 2>&1 | head -n 3)"
+    sed -n '/^    do {$/,/^    } while/p' "$here/../library/extract.c" >loop || no "the loop of the example is cut out"
+    tell "the page has the loop of the program that is tried" \
+        "$(sed -n '/^```c$/,/^```$/p' "$here/../docs/LIBRARY.md" | sed '/^```/d' | diff - loop 2>&1 | head -n 3; [ -s loop ] || echo "no loop")"
     gcc "${flags[@]}" -o extract_c "$here/../library/extract.c" library/libtmx.a 2>made || cat made
     tell "the example in C, with the archive" "$(differs ./extract_c)"
     gcc "${flags[@]}" -o extract_so "$here/../library/extract.c" -L library -ltmx 2>made || cat made
@@ -106,6 +107,10 @@ library_stack() {
 }
 
 library() {
+    # guards: a-room-in-memory-is-a-drain
+    # guards: what-is-read-before-the-recording-is-checked-in-the-programs-order
+    # guards: a-call-gives-exactly-what-its-chunk-gives
+    # guards: tmx_run-answers-in-numbers-what-the-call-gave
     plan 24
     names
     if [ -n "${LIBRARY:-}" ]; then

@@ -39,6 +39,13 @@ END
 }
 
 low_memory() {
+    # guards: run-stops-at-one-place-in-both-outputs
+    # guards: how-the-place-of-a-name-is-found
+    # guards: put-holds-the-octets-or-writes-them
+    # guards: no-file-of-the-run-is-overwritten-by-an-applications
+    # guards: what-is-checked-and-opened-before-a-run
+    # guards: each-fault-traces-to-a-word-or-a-file
+    # guards: each-step-has-only-its-own-faults
     local run
     plan 11
     if ! command -v cc >/dev/null || ! refusing_library; then

@@ -74,6 +74,18 @@ judge() {
     diff -rq found/split expected/split >/dev/null || echo "files of split; "
 }
 
+# What is wrong with the binary forms, beside what the reference says.
+judge_binary() {
+    local command
+    for command in packets fields; do
+        # shellcheck disable=SC2046
+        "$tmx" $command --binary --settings "$1" --report found/report $(words_of $command found) "$2" >found/octets ||
+            echo "status of $command --binary; "
+        cmp -s found/octets expected/$command.octets || echo "octets of $command --binary; "
+        cmp -s found/report found/$command.report || echo "report of $command --binary; "
+    done
+}
+
 # The sum of a number of the summary, over its lines of a kind.
 in_all() {
     grep "^$1 " found/summary.out | sed "s/.* $2=//; s/ .*//" | awk '{ s += $1 } END { printf "%d", s }'
@@ -111,7 +123,10 @@ trial() {
             judge
         )
     done
-    wrong+=$(judge_sums "$2")
+    wrong+=$(
+        judge_binary "$2" "$3"
+        judge_sums "$2"
+    )
     tell "$1" "$wrong"
 }
 
@@ -154,6 +169,8 @@ random_recordings() {
 
 # Two halves run side by side.
 random() {
+    # guards: no-octet-is-lost-or-given-twice
+    # guards: what-adds-up-in-a-summary
     local short long
     random_recordings s9 s9e s24 s24o >short_frames 2>&1 &
     short=$!
@@ -206,6 +223,12 @@ zero() {
 
 # Random settings and damaged recordings, in one run and in steps.
 anything() {
+    # guards: a-jobs-checkpoint-is-written-and-read
+    # guards: a-resumed-job-gives-what-one-run-gives
+    # guards: each-stop-in-an-older-version-costs-at-most-one-line
+    # guards: a-run-starts-from-its-inputs
+    # guards: what-a-run-does-follows-the-plan
+    # guards: a-run-with-ok-has-replaced-the-checkpoints-file
     says anything python3 "$here/anything.py" "$tmx" "$here/fields.csv" "$ANYTHING" 1
     plan 1
 }

@@ -37,6 +37,10 @@ strict_trial() {
 }
 
 strict() {
+    # guards: totals-count-what-a-run-gave-and-lost
+    # guards: each-number-is-a-count-over-whole-lists
+    # guards: done-tells-what-a-run-gave-and-lost
+    # guards: with---strict-the-status-says-what-was-lost
     local settings kind octets seed record counted=()
     make_settings
     for settings in s9 s9e s24 s24o s1115 s1115n s2048e; do

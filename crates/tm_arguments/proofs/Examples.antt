@@ -45,6 +45,13 @@ strict_planned : (plan_of (with_settings (codes "packets") (codes "--strict" ∷
 unfolding clap_on_literals matches_of
 strict_planned = (refl, refl, refl)
 
+-- in octets
+binary_planned : (plan_of (with_settings (codes "packets") (codes "--binary" ∷ [])) ≡ Some (record (only Packets) { binary = true }))
+    × (plan_of (with_settings (codes "fields") (codes "--binary" ∷ codes "--definition" ∷ codes "d" ∷ codes "--apid" ∷ codes "200" ∷ []))
+    ≡ Some (record (only Fields) { definition = Some (codes "d"); apid = Some 200; binary = true }))
+unfolding clap_on_literals matches_of
+binary_planned = (refl, refl)
+
 stop_alone : option_map lacks_checkpoint (plan_of (with_settings (codes "extract") (codes "--stop-after" ∷ codes "3" ∷ []))) ≡ Some true
 unfolding clap_on_literals matches_of
 stop_alone = refl
@@ -55,9 +62,10 @@ unknown : (faults_of (with_settings (codes "frames") (codes "r" ∷ codes "extra
     × (faults_of (with_settings (codes "summary") (codes "--report" ∷ codes "x" ∷ [])) ≡ UnknownArgument ∷ [])
     × (faults_of (with_settings (codes "frames") (codes "--stop-after" ∷ codes "3" ∷ [])) ≡ UnknownArgument ∷ [])
     × (faults_of (with_settings (codes "frames") (codes "--strict" ∷ [])) ≡ UnknownArgument ∷ [])
+    × (faults_of (with_settings (codes "extract") (codes "--binary" ∷ [])) ≡ UnknownArgument ∷ [])
     × (faults_of (codes "packets" ∷ codes "--version" ∷ []) ≡ UnknownArgument ∷ [])
 unfolding clap_on_literals faults_of
-unknown = (refl, refl, refl, refl, refl, refl)
+unknown = (refl, refl, refl, refl, refl, refl, refl)
 
 -- a value of the flag, and the flag twice
 flag_faults : (faults_of (with_settings (codes "packets") (codes "--strict=true" ∷ [])) ≡ TooManyValues ∷ [])

@@ -106,7 +106,7 @@ fields_given rows f e =
     (given-first (codes "settings") rows f given.0, (given-first (codes "definition") rows f given.1.0, apid))
 
 -- what every job takes behind its settings, and help
-job_ruled : AllByRecursion IsRuled (drop 1 (shape_at 1).rules)
+job_ruled : AllByRecursion IsRuled (drop 1 (shape_at 2).rules)
 unfolding range_of
 job_ruled = ((refl, tt), ((refl, tt), ((refl, (refl, refl, refl)), ((refl, tt), ((refl, tt), ((refl, tt), ((refl, tt), tt)))))))
 
@@ -114,10 +114,10 @@ subcommands_ask : AllByRecursion IsAsking tmx_built.subs
 unfolding range_of
 subcommands_ask =
     let frames : IsAsking (shape_at 0) = (((refl, tt), ((refl, tt), ((refl, tt), tt))), Frames, refl, λ rows f e. (settings_given rows f e, tt)) in
-    let packets : IsAsking (shape_at 1) = (((refl, tt), job_ruled), Packets, refl, λ rows f e. (settings_given rows f e, tt)) in
+    let packets : IsAsking (shape_at 1) = (((refl, tt), ((refl, tt), job_ruled)), Packets, refl, λ rows f e. (settings_given rows f e, tt)) in
     let extract : IsAsking (shape_at 2) = (((refl, tt), job_ruled), Extract, refl, λ rows f e. (settings_given rows f e, tt)) in
     let split : IsAsking (shape_at 3) = (((refl, tt), ((refl, tt), job_ruled)), Split, refl, split_given) in
-    let fields : IsAsking (shape_at 4) = (((refl, tt), ((refl, tt), ((refl, (refl, refl, refl)), job_ruled))), Fields, refl, fields_given) in
+    let fields : IsAsking (shape_at 4) = (((refl, tt), ((refl, tt), ((refl, (refl, refl, refl)), ((refl, tt), job_ruled)))), Fields, refl, fields_given) in
     let summary : IsAsking (shape_at 5) = (((refl, tt), ((refl, tt), ((refl, tt), ((refl, tt), tt)))), Summary, refl, λ rows f e. (settings_given rows f e, tt)) in
     (frames, (packets, (extract, (split, (fields, (summary, tt))))))
 

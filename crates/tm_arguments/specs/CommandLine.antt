@@ -51,6 +51,10 @@ apid_rule = record (required_rule (codes "apid")) { parser = Some (numbers 0 204
 abbrev pub settings_rule : Rule
 settings_rule = required_rule (codes "settings")
 
+-- `[--binary]`: what the commands take that have a binary form
+abbrev pub binary_rule : Rule
+binary_rule = flag_rule (codes "binary")
+
 -- `[--strict] [RECORDING]`: what all commands but `frames` take
 abbrev pub strict_rules : List Rule
 strict_rules = flag_rule (codes "strict") ∷ recording_rule ∷ []
@@ -67,10 +71,10 @@ app_with name rules = fold with_rule (new_app name) rules
 abbrev pub subcommands : List App
 subcommands =
     app_with (codes "frames") (settings_rule ∷ recording_rule ∷ [])
-    ∷ app_with (codes "packets") (settings_rule ∷ job_rules)
+    ∷ app_with (codes "packets") (settings_rule ∷ binary_rule ∷ job_rules)
     ∷ app_with (codes "extract") (settings_rule ∷ job_rules)
     ∷ app_with (codes "split") (settings_rule ∷ required_rule (codes "dir") ∷ job_rules)
-    ∷ app_with (codes "fields") (settings_rule ∷ required_rule (codes "definition") ∷ apid_rule ∷ job_rules)
+    ∷ app_with (codes "fields") (settings_rule ∷ required_rule (codes "definition") ∷ apid_rule ∷ binary_rule ∷ job_rules)
     ∷ app_with (codes "summary") (settings_rule ∷ strict_rules)
     ∷ []
 
@@ -131,6 +135,7 @@ plan_with rows action = record {
   dir = first_of (codes "dir") rows;
   definition = first_of (codes "definition") rows;
   apid = option_and_then (number_spelled 16) (one_of (codes "apid") rows);
+  binary = has_flag (codes "binary") rows;
   strict = has_flag (codes "strict") rows;
 }
 

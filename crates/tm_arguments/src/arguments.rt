@@ -87,6 +87,7 @@ fn plan_of_subcommand(
     let dir = value_of(alloc, matches, "dir")?;
     let definition = value_of(alloc, matches, "definition")?;
     let apid = short_number_of(matches, "apid");
+    let binary = has_flag(matches, "binary");
     let strict = has_flag(matches, "strict");
     Ok(Some(Plan {
         action,
@@ -99,6 +100,7 @@ fn plan_of_subcommand(
         dir,
         definition,
         apid,
+        binary,
         strict,
     }))
 }
@@ -178,7 +180,8 @@ fn lacks_checkpoint(plan: &Plan) -> bool
 
 /// What the arguments after the program's name ask for. `frames` takes `--settings FILE [RECORDING]`, and `summary` takes
 /// `[--strict]` besides. `packets` and `extract` take `[--report FILE] [--checkpoint FILE] [--stop-after N] [--resume FILE]` as
-/// well. `split` takes `--dir DIR` besides these, and `fields` takes `--definition FILE --apid N`. The N of `--stop-after` is from
+/// well. `packets` takes `[--binary]` besides these, `split` takes `--dir DIR`, and `fields` takes `--definition FILE --apid N
+/// [--binary]`. The N of `--stop-after` is from
 /// 1 to 4294967295, that of `--apid` from 0 to 2047. `--stop-after` without `--checkpoint` is `StopAfter`. Other arguments are
 /// `Usage`, `--help` is `Help`, each with a text to print.
 pub fn plan(alloc: Global, arguments: Vec<String>) -> Result<Plan, UsageFault>

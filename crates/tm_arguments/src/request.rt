@@ -41,6 +41,8 @@ pub struct Plan {
     pub definition: Option<Octets>,
     /// The application whose packets' fields are read, which reading fields needs.
     pub apid: Option<u16>,
+    /// Whether packets or rows are given in octets, and not as text.
+    pub binary: bool,
     /// Whether the status of a run that is done says what was lost.
     pub strict: bool,
 }

@@ -5,7 +5,7 @@ pub(crate) const VERSION: &str = "0.1.0\nlogic dac8208d650f15bf";
 
 /// What help says after all commands.
 pub(crate) const PAGES: &str =
-    "tmx COMMAND --help says what a command takes, and has an example.\n\nPages, in the folder docs:\n  tmx.1       the manual page: man -l docs/tmx.1\n  FORMATS.md  settings, lines, definitions, faults and statuses\n  FRAMES.md   how frames are read\n  RUNS.md     which packets are whole, and what is lost\n  PACKETS.md  headers of packets, counts and groups\n  RECIPES.md  how other tools take over\n  PYTHON.md   the package for Python";
+    "tmx COMMAND --help says what a command takes, and has an example.\n\nPages, in the folder docs:\n  tmx.1       the manual page: man -l docs/tmx.1\n  FORMATS.md  settings, lines, definitions, faults and statuses\n  FRAMES.md   how frames are read\n  RUNS.md     which packets are whole, and what is lost\n  PACKETS.md  headers of packets, counts and groups\n  RECIPES.md  how other tools take over\n  PYTHON.md   the package for Python, with tmx-watch, tmx-report, tmx-probe, tmx-cut, tmx-map and tmx-follow";
 
 /// What an argument is. Help calls its value as the text says.
 #[derive(Clone, Copy)]
@@ -87,6 +87,13 @@ const STRICT: Argument = Argument {
     form: ArgumentForm::Flag,
 };
 
+const BINARY: Argument = Argument {
+    name: "binary",
+    help: "Octets in place of lines or rows, at a terminal too",
+    required: false,
+    form: ArgumentForm::Flag,
+};
+
 const DIR: Argument = Argument {
     name: "dir",
     help: "The folder for the files, which has to be there; other files of an earlier run stay in it",
@@ -110,7 +117,11 @@ const APID: Argument = Argument {
 
 const FRAMES_ARGUMENTS: [Argument; 2] = [SETTINGS, RECORDING];
 
-const JOB_ARGUMENTS: [Argument; 7] = [
+const PACKETS_ARGUMENTS: [Argument; 8] = [
+    SETTINGS, BINARY, REPORT, CHECKPOINT, STOP_AFTER, RESUME, STRICT, RECORDING,
+];
+
+const EXTRACT_ARGUMENTS: [Argument; 7] = [
     SETTINGS, REPORT, CHECKPOINT, STOP_AFTER, RESUME, STRICT, RECORDING,
 ];
 
@@ -118,8 +129,8 @@ const SPLIT_ARGUMENTS: [Argument; 8] = [
     SETTINGS, DIR, REPORT, CHECKPOINT, STOP_AFTER, RESUME, STRICT, RECORDING,
 ];
 
-const FIELDS_ARGUMENTS: [Argument; 9] = [
-    SETTINGS, DEFINITION, APID, REPORT, CHECKPOINT, STOP_AFTER, RESUME, STRICT, RECORDING,
+const FIELDS_ARGUMENTS: [Argument; 10] = [
+    SETTINGS, DEFINITION, APID, BINARY, REPORT, CHECKPOINT, STOP_AFTER, RESUME, STRICT, RECORDING,
 ];
 
 const SUMMARY_ARGUMENTS: [Argument; 3] = [SETTINGS, STRICT, RECORDING];
@@ -134,13 +145,13 @@ pub(crate) const SUBCOMMANDS: [Subcommand; 6] = [
     Subcommand {
         name: "packets",
         about: "Lists the packets of the chosen channels: one line for each",
-        arguments: &JOB_ARGUMENTS,
+        arguments: &PACKETS_ARGUMENTS,
         example: "Example:\n  tmx packets --settings s.toml --report report.txt pass.rec",
     },
     Subcommand {
         name: "extract",
         about: "Extracts the packets of the chosen channels: their octets, with nothing between them",
-        arguments: &JOB_ARGUMENTS,
+        arguments: &EXTRACT_ARGUMENTS,
         example: "Example:\n  zcat pass.rec.gz | tmx extract --settings s.toml --report report.txt > pass.pkt",
     },
     Subcommand {

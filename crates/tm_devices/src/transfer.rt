@@ -1,6 +1,6 @@
 //! Whole slices from a source and into a drain.
 
-ghost use Rattle.std.specs.Prelude.{ℕ, List, ◌≡◌, ◌<◌, ◌≤◌, true, length, take, IfOk, OnOk, OnErr};
+ghost use Rattle.std.specs.Prelude.{ℕ, List, [], ◌≡◌, ◌≢◌, ◌<◌, ◌≤◌, true, length, take, IfOk, OnOk, OnErr};
 ghost use Rattle.std.specs.Io.KnownBytes.{Appends, Consumes, IsAtEnd};
 ghost use Rattle.tm_devices.specs.Devices.{AppendsPrefix, Counts};
 
@@ -11,6 +11,7 @@ pub fn write_all<W: Drain>(out: &mut W, octets: &[u8]) -> Result<(), DeviceFaile
     ensures same { W.fixed out.new ≡ W.fixed out.old }
     ensures whole { OnOk result (Appends (W.written out.old) (W.written out.new) octets.now) }
     ensures prefix { OnErr result (AppendsPrefix (W.written out.old) (W.written out.new) octets.now) }
+    ensures some { OnErr result (octets.now ≢ []) }
     ensures counts { Counts (W.failures out.old) (W.failures out.new) result }
 {
     let mut rest = octets;

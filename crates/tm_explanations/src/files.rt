@@ -11,7 +11,7 @@ use std::rt::Files;
 use tm_arguments::Plan;
 use tm_bits::Octets;
 use tm_file_identity::{Place, identity_of};
-use tm_files::{find_clash, identify_files, name_at, read_file};
+use tm_files::{INPUT_NAME, find_clash, identify_files, name_at, read_file};
 
 // The system's numbers of two errors: a file isn't open, and it is a folder.
 const CLOSED: i32 = 9;
@@ -144,7 +144,7 @@ impl<R: Files + AllocGlobal> EndedRun<'_, R> {
 pub(crate) fn packed_text<R: Files + AllocGlobal>(rt: &R, plan: &Plan) -> Said {
     let path = match &plan.recording {
         Some(name) => text_of(name.as_slice()),
-        None => "/proc/self/fd/0",
+        None => INPUT_NAME,
     };
     let mut octets = [0u8; 4];
     if is_regular(rt, path)

@@ -10,6 +10,7 @@ use Rattle.tm_bits.specs.Bits.{bits_of, low_bits, number, part}
 use Rattle.tm_fields.specs.Numbers.{number_within}
 use Rattle.tm_fields.specs.Reading.{definition_of}
 use Rattle.tm_fields.specs.Rows.{head_of, row_from}
+use Rattle.tm_fields.specs.declared.rows.RowForm.TheVariants.{Text}
 use Rattle.tm_fields.specs.declared.lead.Lead.{Lead}
 use Rattle.tm_faults.specs.declared.definition.Column.TheVariants as column
 use Rattle.tm_faults.specs.declared.definition.DefinitionFault.TheVariants as fault
@@ -56,7 +57,7 @@ unfolding escaped fields_text is_blank
 head = refl
 
 -- a negative number, a value with quotes, raw digits
-row : row_from fields lead packet ≡ Ok (codes "0,0,100,0,7,-1,\"a,b\",0x3f800000\n")
+row : row_from Text fields lead packet ≡ Ok (codes "0,0,100,0,7,-1,\"a,b\",0x3f800000\n")
 unfolding escaped fields_text is_blank digits encode_with bits_of low_bits number part
 row = refl
 

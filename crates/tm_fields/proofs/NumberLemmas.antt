@@ -112,3 +112,7 @@ octets_next octets at count i h =
     let left : count - i ≡ suc (count - (i + 1)) = omega arith in
     let place : at + 8 * (i + 1) ≡ at + 8 * i + 8 = omega arith in
     rw (left, place) refl
+
+pub octets_at_length : (octets : List ℕ) (at count : ℕ) → length (octets_at octets at count) ≡ count
+octets_at_length octets at zero = refl
+octets_at_length octets at (suc count) = ap suc (octets_at_length octets (at + 8) count)

@@ -1,11 +1,12 @@
 -- The head and the rows of a definition.
-use Rattle.std.specs.Prelude.{◌≡◌, ◌≢◌, ◌<◌, ℕ, ◌+◌, ◌-◌, ◌/◌, ◌^◌, nat_lt, max, if◌then◌else◌, List, [], ◌∷◌, ◌++◌, Result, Ok, Err, codes}
+use Rattle.std.specs.Prelude.{◌≡◌, ◌≢◌, ◌<◌, ◌≤◌, ℕ, ◌+◌, ◌-◌, ◌/◌, ◌^◌, nat_lt, max, if◌then◌else◌, List, [], ◌∷◌, ◌++◌, Result, Ok, Err, codes}
 use Rattle.std.specs.Fmt.{decimal}
 use Rattle.std.specs.List.{flat_map}
 use Rattle.csv.specs.Writing.{default_writer, row_text}
 use Rattle.hex.specs.Hex.{encode_lower}
 use Rattle.tm_bits.specs.Bits.{part}
 use Rattle.tm_bits.specs.Escape.{escaped}
+use Rattle.tm_fields.specs.Binary.{row_length, row_octets}
 use Rattle.tm_fields.specs.Numbers.{bits_in, octets_at}
 use Rattle.tm_fields.specs.Reading.{end_of, is_shown}
 use Rattle.tm_fields.specs.declared.lead.Lead.{Lead}
@@ -14,6 +15,8 @@ use Rattle.tm_fields.specs.declared.faults.RowFault.TheVariants as fault
 use Rattle.tm_fields.specs.declared.field.DataType.{DataType}
 use Rattle.tm_fields.specs.declared.field.DataType.TheVariants.{Uint, Int, Float, Str, Fill}
 use Rattle.tm_fields.specs.declared.field.Field.{Field}
+use Rattle.tm_fields.specs.declared.rows.RowForm.{RowForm}
+use Rattle.tm_fields.specs.declared.rows.RowForm.TheVariants.{Text, Binary}
 
 -- the greatest end of the fields, 0 without fields
 abbrev pub bits_needed : List Field → ℕ
@@ -64,24 +67,35 @@ lead_texts lead = decimal lead.seen ∷ decimal lead.channel ∷ decimal lead.ap
 abbrev pub row_of : List Field → Lead → List ℕ → List ℕ
 row_of fields lead packet = row_text default_writer (lead_texts lead ++ flat_map (printed packet) fields)
 
--- the row of a packet, or how many bits it lacks
-abbrev pub row_from : List Field → Lead → List ℕ → Result (List ℕ) RowFault
-row_from fields lead packet =
-    if nat_lt (bits_in packet) (bits_needed fields) then Err (fault.ShortPacket (bits_needed fields) (bits_in packet)) else Ok (row_of fields lead packet)
+-- the row of such a packet in a form
+abbrev pub row_in : RowForm → List Field → Lead → List ℕ → List ℕ
+row_in Text fields lead packet = row_of fields lead packet
+row_in Binary fields lead packet = row_octets fields lead packet
 
--- the text is the row of a packet
-abbrev pub IsRow : List Field → Lead → List ℕ → List ℕ → Type 0
-IsRow fields lead packet text = row_from fields lead packet ≡ Ok text
+-- the row of a packet, or how many bits it lacks
+abbrev pub row_from : RowForm → List Field → Lead → List ℕ → Result (List ℕ) RowFault
+row_from form fields lead packet =
+    if nat_lt (bits_in packet) (bits_needed fields) then Err (fault.ShortPacket (bits_needed fields) (bits_in packet)) else Ok (row_in form fields lead packet)
+
+-- these octets are the row of a packet
+abbrev pub IsRow : RowForm → List Field → Lead → List ℕ → List ℕ → Type 0
+IsRow form fields lead packet row = row_from form fields lead packet ≡ Ok row
 
 -- memory ran out, or the packet has no row for this reason
-abbrev pub RefusesRow : List Field → Lead → List ℕ → RowFault → Type 0
-RefusesRow fields lead packet refusal = refusal ≢ fault.NoMemory → row_from fields lead packet ≡ Err refusal
+abbrev pub RefusesRow : RowForm → List Field → Lead → List ℕ → RowFault → Type 0
+RefusesRow form fields lead packet refusal = refusal ≢ fault.NoMemory → row_from form fields lead packet ≡ Err refusal
 
 -- a packet that lacks bits is refused as that, whatever memory there is
 abbrev pub RefusesShort : {A : Type 0} → List Field → List ℕ → Result A RowFault → Type 0
 RefusesShort fields packet result = bits_in packet < bits_needed fields → result ≡ Err (fault.ShortPacket (bits_needed fields) (bits_in packet))
 
--- rows of these fields, and the last of them
+-- rows of these fields in a form, the last of them, and the octets for which there is memory
 pub record RowsState : Type 0 where
   pub fields : List Field
+  pub form : RowForm
   pub row : List ℕ
+  pub room : ℕ
+
+-- the memory for a row of the binary form was taken
+abbrev pub HasRoom : RowsState → Type 0
+HasRoom rows = (rows.form ≡ Binary) × (row_length rows.fields ≤ rows.room)

@@ -1,13 +1,16 @@
 //! A whole definition, and the head and rows that it gives.
 
-ghost use Rattle.std.specs.Prelude.{◌≡◌, ◌≢◌, ◌<◌, ◌≤◌, ◌++◌, [], Ok, Err, true, length, List, IfOk, IfErr, OnOk, map};
+ghost use Rattle.std.specs.Prelude.{◌≡◌, ◌≢◌, ◌<◌, ◌≤◌, ◌+◌, ◌++◌, [], Ok, Err, true, length, List, IfOk, IfErr, IsOk, OnOk, map, vec_capacity, vec_len};
 ghost use Rattle.std.specs.List.{list_all};
 ghost use Rattle.csv.specs.Records.{fields_of};
 ghost use Rattle.tm_fields.specs.Numbers.{bits_in};
 ghost use Rattle.tm_fields.specs.Reading.{definition_of, fields_from, fields_in, is_sound};
+ghost use Rattle.tm_fields.specs.Binary.{row_length, row_octets};
 ghost use Rattle.tm_fields.specs.Rows.{IsRow, RefusesRow, RefusesShort, bits_needed, head_of, row_of};
 ghost use Rattle.tm_fields.specs.declared.field.Field.{Field};
+ghost use Rattle.tm_fields.specs.declared.rows.RowForm.TheVariants.{Text};
 
+use crate::binary::{push_value_octets, row_lead};
 use crate::cells::Cells;
 use crate::columns::{Columns, find_columns};
 use crate::faults::RowFault;
@@ -21,6 +24,7 @@ use csv::ByteRecord;
 use std::alloc::{AllocError, Global};
 use std::collections::BTreeSet;
 use std::marker::Model;
+use tm_bits::push;
 use tm_faults::{Column, DefinitionFault, NoMemory};
 
 /// The fields that packets are read by, at most 1000.
@@ -29,6 +33,8 @@ pub struct Definition {
     fields: Vec<Field>,
     // The greatest end of a field.
     needed: u32,
+    // How many octets a row has in the binary form.
+    length: u32,
 }
 
 impl Model for Definition {
@@ -36,7 +42,20 @@ impl Model for Definition {
 
     ghost view = { λ d. d.fields.items };
 
-    ghost invariant = { λ d. (list_all is_sound d.fields.items ≡ true) × (d.needed ≡ bits_needed d.fields.items) };
+    ghost invariant = { λ d. (list_all is_sound d.fields.items ≡ true) × (d.needed ≡ bits_needed d.fields.items) × (d.length ≡ row_length d.fields.items) };
+}
+
+// How many octets a row of these fields has in the binary form.
+fn row_length(fields: &[Field]) -> u32
+    requires sound { list_all is_sound fields.now ≡ true }
+    requires few { length fields.now ≤ 1000 }
+    ensures { result ≡ row_length fields.now }
+{
+    let mut length = 16u32;
+    for field in fields {
+        length += field.octets();
+    }
+    length
 }
 
 // The fields of the records under a heading.
@@ -70,7 +89,12 @@ fn read_fields(
             return Err(DefinitionFault::NoMemory);
         }
     }
-    Ok(Definition { fields, needed })
+    let length = row_length(fields.as_slice());
+    Ok(Definition {
+        fields,
+        needed,
+        length,
+    })
 }
 
 // The definition of a table.
@@ -113,6 +137,13 @@ impl Definition {
         ensures { result ≡ bits_needed self.now }
     {
         self.needed
+    }
+
+    /// How many octets each row has in the binary form: the 16 of the lead, and those of all fields but those of type `fill`.
+    pub fn row_length(&self) -> u32
+        ensures { result ≡ row_length self.now }
+    {
+        self.length
     }
 
     /// The head of the rows, a line of comma-separated values: `tm_record`, `tm_channel`, `tm_apid`, `tm_count`, and the names of
@@ -169,6 +200,28 @@ impl Definition {
         Ok(())
     }
 
+    /// Writes the row of a packet that is long enough in the binary form at the end of another. Memory is taken at once, and only
+    /// where there isn't enough.
+    #[tactic(auto, using(crate::proofs::RowLemmas::fits_needed))]
+    pub(crate) fn push_binary_row(
+        &self,
+        row: &mut Vec<u8>,
+        lead: Lead,
+        packet: &[u8],
+    ) -> Result<(), AllocError>
+        requires { bits_needed self.now ≤ bits_in packet.now }
+        ensures items { OnOk result (row.new.items ≡ row.old.items ++ row_octets self.now lead packet.now) }
+        ensures room { OnOk result (row_length self.now ≤ vec_capacity row.new) }
+        ensures enough { vec_len row.old + row_length self.now ≤ vec_capacity row.old → IsOk result }
+    {
+        row.reserve(self.length as usize)?;
+        push(row, &row_lead(lead));
+        for field in &self.fields {
+            push_value_octets(row, field, packet);
+        }
+        Ok(())
+    }
+
     /// The row of a packet, a line of comma-separated values: the lead's numbers, and the values of all fields but those of type
     /// `fill`. Octets of the packet after the last field are passed over. `Rows` makes many rows in less time.
     ///
@@ -177,8 +230,8 @@ impl Definition {
     /// `ShortPacket` where the packet has fewer bits than are needed, whatever memory there is; else `NoMemory` where memory runs
     /// out.
     pub fn row(&self, alloc: Global, lead: Lead, packet: &[u8]) -> Result<Vec<u8>, RowFault>
-        ensures ok { IfOk result (λ text. IsRow self.now lead packet.now text.items) }
-        ensures refused { IfErr result (RefusesRow self.now lead packet.now) }
+        ensures ok { IfOk result (λ text. IsRow Text self.now lead packet.now text.items) }
+        ensures refused { IfErr result (RefusesRow Text self.now lead packet.now) }
         ensures short { RefusesShort self.now packet.now result }
     {
         if let Err(fault) = self.check_length(packet) {

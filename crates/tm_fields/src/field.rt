@@ -1,6 +1,8 @@
 //! What a definition says of one field.
 
-ghost use Rattle.std.specs.Prelude.{◌≡◌};
+ghost use Rattle.std.specs.Prelude.{◌≡◌, ◌≤◌, true};
+ghost use Rattle.tm_fields.specs.Binary.{value_length, number_length};
+ghost use Rattle.tm_fields.specs.Reading.{is_sound};
 
 use tm_bits::Octets;
 
@@ -56,4 +58,31 @@ pub struct Field {
     pub begin: u32,
     /// How many bits it has.
     pub length: u32,
+}
+
+// The fewest of 1, 2, 4 and 8 octets that hold so many bits.
+fn number_length(bits: u32) -> u32
+    ensures { result ≡ number_length bits }
+{
+    match bits {
+        0..=8 => 1,
+        9..=16 => 2,
+        17..=32 => 4,
+        _ => 8,
+    }
+}
+
+impl Field {
+    /// How many octets it has in a row of octets.
+    pub(crate) fn octets(&self) -> u32
+        requires { is_sound self.now ≡ true }
+        ensures octets { result ≡ value_length self.now }
+        ensures bound { result ≤ 65542 }
+    {
+        match self.data_type {
+            DataType::Uint | DataType::Int => number_length(self.length),
+            DataType::Float | DataType::Str => self.length / 8,
+            DataType::Fill => 0,
+        }
+    }
 }

@@ -5,6 +5,7 @@
 //! 133.0-B-2 numbers the bits of a packet (section 4.1).
 #![tactic(auto)]
 
+mod binary;
 mod cells;
 mod columns;
 mod definition;
@@ -26,6 +27,6 @@ pub use faults::RowFault;
 pub use field::{DataType, Field};
 pub use lead::Lead;
 pub use numbers::number_at;
-pub use rows::Rows;
+pub use rows::{RowForm, Rows};
 pub use tm_bits::Octets;
 pub use tm_faults::{Column, DefinitionFault, NoMemory};

@@ -25,8 +25,8 @@ pub(crate) fn push_number<I: Integer>(text: &mut Vec<u8>, number: I) -> Result<(
     text.extend_from_slice(Buffer::new().format(number).as_bytes())
 }
 
-// Two to the power of a number of bits.
-fn power(bits: u32) -> u128
+/// Two to the power of a number of bits.
+pub(crate) fn power(bits: u32) -> u128
     requires { bits ≤ 64 }
     ensures { result ≡ 2 ^ bits }
 {
@@ -87,9 +87,9 @@ fn unaligned_octets(
     Ok(octets)
 }
 
-// So many octets of a packet from a bit on, which is the first of an octet.
+/// So many octets of a packet from a bit on, which is the first of an octet.
 #[tactic(auto, using(crate::proofs::NumberLemmas::octets_at_border))]
-fn aligned_octets(packet: &[u8], at: u32, count: u32) -> &[u8]
+pub(crate) fn aligned_octets(packet: &[u8], at: u32, count: u32) -> &[u8]
     requires border { at % 8 ≡ 0 }
     requires within { at + 8 * count ≤ bits_in packet.now }
     ensures { result.now ≡ octets_at packet.now at count }

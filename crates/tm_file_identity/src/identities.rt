@@ -4,6 +4,10 @@ ghost use Rattle.std.specs.Prelude.{◌≡◌, find, is_some};
 ghost use Rattle.tm_file_identity.specs.FileIdentities.{all_places, clash_at, has, identity_at, is_at, others_of};
 
 use crate::identity::FileIdentity;
+use Place::{
+    Checkpoint, Definition, Errors, Faults, Output, Recording, Report, Resumed, Settings,
+    TemporaryCheckpoint,
+};
 
 /// What a file or a stream is to a run.
 #[derive(Clone, Copy, Debug, PartialEq, Eq)]
@@ -27,53 +31,29 @@ pub enum Place {
 impl Place {
     /// All places of files, as far as the run reads or writes them. A file of packets must not be written over any.
     pub const ALL: [Place; 9] = [
-        Place::Recording,
-        Place::Settings,
-        Place::Definition,
-        Place::Output,
-        Place::Errors,
-        Place::Resumed,
-        Place::Report,
-        Place::Checkpoint,
-        Place::TemporaryCheckpoint,
+        Recording,
+        Settings,
+        Definition,
+        Output,
+        Errors,
+        Resumed,
+        Report,
+        Checkpoint,
+        TemporaryCheckpoint,
     ];
 
     // Those of a stream: what is read.
-    const OTHERS_OF_STREAM: [Place; 4] = [
-        Place::Recording,
-        Place::Settings,
-        Place::Definition,
-        Place::Resumed,
-    ];
+    const OTHERS_OF_STREAM: [Place; 4] = [Recording, Settings, Definition, Resumed];
 
     // Those of the checkpoint. It may be the one to go on from, which is read whole before; that it is not the report is said of the report.
-    const OTHERS_OF_CHECKPOINT: [Place; 5] = [
-        Place::Recording,
-        Place::Settings,
-        Place::Definition,
-        Place::Output,
-        Place::Errors,
-    ];
+    const OTHERS_OF_CHECKPOINT: [Place; 5] = [Recording, Settings, Definition, Output, Errors];
 
     const OTHERS_OF_TEMPORARY: [Place; 8] = [
-        Place::Recording,
-        Place::Settings,
-        Place::Definition,
-        Place::Output,
-        Place::Errors,
-        Place::Resumed,
-        Place::Report,
-        Place::Checkpoint,
+        Recording, Settings, Definition, Output, Errors, Resumed, Report, Checkpoint,
     ];
 
     const OTHERS_OF_REPORT: [Place; 7] = [
-        Place::Recording,
-        Place::Settings,
-        Place::Definition,
-        Place::Output,
-        Place::Errors,
-        Place::Resumed,
-        Place::Checkpoint,
+        Recording, Settings, Definition, Output, Errors, Resumed, Checkpoint,
     ];
 
     /// The places of the files over which the file at this place must not be written, in the order in which they are told.
@@ -81,15 +61,11 @@ impl Place {
         ensures { result.now ≡ others_of self }
     {
         match self {
-            Place::Checkpoint => &Place::OTHERS_OF_CHECKPOINT,
-            Place::TemporaryCheckpoint => &Place::OTHERS_OF_TEMPORARY,
-            Place::Report => &Place::OTHERS_OF_REPORT,
-            Place::Output | Place::Faults => &Place::OTHERS_OF_STREAM,
-            Place::Recording
-            | Place::Settings
-            | Place::Definition
-            | Place::Resumed
-            | Place::Errors => &[],
+            Checkpoint => &Place::OTHERS_OF_CHECKPOINT,
+            TemporaryCheckpoint => &Place::OTHERS_OF_TEMPORARY,
+            Report => &Place::OTHERS_OF_REPORT,
+            Output | Faults => &Place::OTHERS_OF_STREAM,
+            Recording | Settings | Definition | Resumed | Errors => &[],
         }
     }
 }
@@ -119,36 +95,27 @@ impl FileIdentities {
         ensures { result.now ≡ identity_at self.now place }
     {
         match place {
-            Place::Recording => &self.recording,
-            Place::Settings => &self.settings,
-            Place::Definition => &self.definition,
-            Place::Resumed => &self.resumed,
-            Place::Report => &self.report,
-            Place::Checkpoint => &self.checkpoint,
-            Place::TemporaryCheckpoint => &self.temporary_checkpoint,
-            Place::Output => &self.output,
-            Place::Errors => &self.errors,
-            Place::Faults => &self.faults,
+            Recording => &self.recording,
+            Settings => &self.settings,
+            Definition => &self.definition,
+            Resumed => &self.resumed,
+            Report => &self.report,
+            Checkpoint => &self.checkpoint,
+            TemporaryCheckpoint => &self.temporary_checkpoint,
+            Output => &self.output,
+            Errors => &self.errors,
+            Faults => &self.faults,
         }
-    }
-
-    // The identity is that of the file at a place.
-    fn is_at(&self, identity: &FileIdentity, place: Place) -> bool
-        ensures { result ≡ is_at self.now identity.now place }
-    {
-        identity.is_same(self.at(place))
     }
 
     /// The first of some places whose file has this identity.
     pub fn find(&self, identity: &FileIdentity, places: &[Place]) -> Option<Place>
         ensures { result ≡ find (is_at self.now identity.now) places.now }
     {
-        for place in places {
-            if self.is_at(identity, *place) {
-                return Some(*place);
-            }
-        }
-        None
+        places
+            .iter()
+            .copied()
+            .find(|place| identity.is_same(self.at(*place)))
     }
 
     /// The place of the first file over which the file at a place would be written, by what their names stand for.

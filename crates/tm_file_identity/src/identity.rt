@@ -80,12 +80,7 @@ impl FileIdentity {
 pub fn is_any(identity: &FileIdentity, others: &[FileIdentity]) -> bool
     ensures { result ≡ list_any (is_same identity.now) others.now }
 {
-    for other in others {
-        if identity.is_same(other) {
-            return true;
-        }
-    }
-    false
+    others.iter().any(|other| identity.is_same(other))
 }
 
 // Tells the device of a file and the number that it has there: the system's, and for proofs any whatever.

@@ -4,7 +4,7 @@ use Rattle.std.specs.Str.{bytes_eq}
 use Rattle.tm_arguments.specs.declared.request.Plan.{Plan}
 use Rattle.tm_file_identity.specs.FileIdentities.{others_of}
 use Rattle.tm_file_identity.specs.declared.identities.Place.{Place}
-use Rattle.tm_file_identity.specs.declared.identities.Place.TheVariants.{Recording, Settings, Definition, Resumed, Report, Checkpoint, TemporaryCheckpoint, Output, Errors, Faults}
+use Rattle.tm_file_identity.specs.declared.identities.Place.TheVariants.{Recording, Settings, Definition, Resumed, Report, Checkpoint, TemporaryCheckpoint}
 
 -- the name that a plan has for a place
 abbrev pub name_at : Plan → Place → Option (List ℕ)

@@ -1,7 +1,7 @@
 //! What a plan decides of files and streams, before any is opened. The steps carry it out.
 
 ghost use Rattle.std.specs.Prelude.{◌≡◌};
-ghost use Rattle.tm_files.specs.code.Decisions.{is_job, IsDestination, IsReportTarget, IsRecording, stream_fault_of, writes_errors, writes_output};
+ghost use Rattle.tm_files.specs.code.Decisions.{is_job, IsReportTarget, IsRecording, stream_fault_of, writes_errors, writes_output};
 
 use tm_arguments::{Action, Plan};
 use tm_bits::Octets;
@@ -23,14 +23,6 @@ pub enum ReportTarget<'p> {
     Append(&'p Octets),
     /// It goes to standard error.
     Errors,
-}
-
-/// Where the packets go.
-pub enum Destination<'p> {
-    /// To files in a folder, which are appended to or else begin empty.
-    Folder { dir: &'p Octets, goes_on: bool },
-    /// To standard output.
-    Output,
 }
 
 /// A standard stream that is written.
@@ -61,22 +53,6 @@ pub fn choose_report(plan: &Plan) -> ReportTarget<'_>
     }
 }
 
-/// Where the plan's packets go: files of a folder are appended to if and only if a job is resumed.
-pub fn choose_destination(plan: &Plan) -> Destination<'_>
-    ensures { IsDestination plan.now result }
-{
-    match plan.action {
-        Action::Split => match &plan.dir {
-            Some(dir) => Destination::Folder {
-                dir,
-                goes_on: plan.resume.is_some(),
-            },
-            None => Destination::Output,
-        },
-        _ => Destination::Output,
-    }
-}
-
 /// The plan writes to standard output.
 pub fn writes_output(plan: &Plan) -> bool
     ensures { result ≡ writes_output plan.now.action }
@@ -87,8 +63,8 @@ pub fn writes_output(plan: &Plan) -> bool
     }
 }
 
-/// The action is that of a job, which has a report: neither a list of frames nor a summary.
-pub fn is_job(action: Action) -> bool
+// The action is that of a job, which has a report: neither a list of frames nor a summary.
+fn is_job(action: Action) -> bool
     ensures { result ≡ is_job action }
 {
     !matches!(action, Action::Frames | Action::Summary)

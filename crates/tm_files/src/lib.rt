@@ -11,14 +11,14 @@ mod report;
 
 pub use checks::{check_file_names, check_folder, check_standard_error, check_streams};
 pub use decisions::{
-    Destination, Recording, ReportTarget, Stream, choose_destination, choose_recording,
-    choose_report, is_job, stream_fault, writes_errors, writes_output,
+    Recording, ReportTarget, Stream, choose_recording, choose_report, stream_fault, writes_errors,
+    writes_output,
 };
 pub use files::{
     Replaced, Replacement, TEMPORARY_ENDING, abandon_replacement, append, begin_replacement,
     create, file_fault, finish_replacement, open, read_file,
 };
-pub use identities::identify_files;
+pub use identities::{INPUT_NAME, identify_files};
 pub use names::{
     Checked, Clash, check_errors, check_names, find_clash, find_place, is_named, name_at,
 };

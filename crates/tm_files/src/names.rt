@@ -2,8 +2,8 @@
 
 ghost use Rattle.std.specs.Prelude.{◌≡◌, ◌⊎◌, None, Some, IfErr, IfOk, IsSome, OnOk, find, option_map};
 ghost use Rattle.tm_file_identity.specs.FileIdentities.{clash_at};
-ghost use Rattle.tm_files.specs.code.Clashes.{checkpoint_clash, clash_of, clash_over, fault_of_clash, fault_of_file, output_clash, report_clash};
-ghost use Rattle.tm_files.specs.Names.{AreClear, is_named, name_at, named_over, temporary_checkpoint};
+ghost use Rattle.tm_files.specs.code.Clashes.{clash_of, clash_over, fault_of_clash, output_clash};
+ghost use Rattle.tm_files.specs.Names.{AreClear, is_named, name_at, temporary_checkpoint};
 ghost use Rattle.tm_files.specs.code.Files.{HasFault, IsNoMemory, IsRunFault};
 
 use crate::decisions::{Stream, stream_fault, writes_output};
@@ -38,18 +38,28 @@ pub fn name_at(plan: &Plan, place: Place) -> Option<&Octets>
 pub fn is_named(plan: &Plan, place: Place, name: &Octets) -> bool
     ensures { result ≡ is_named plan.now name.now place }
 {
-    match name_at(plan, place) {
-        Some(found) => found.as_slice() == name.as_slice(),
-        None => false,
-    }
+    name_at(plan, place).is_some_and(|found| found.as_slice() == name.as_slice())
 }
 
-/// The name of the file in which a checkpoint is written before it takes its name.
-pub(crate) fn temporary_checkpoint(alloc: Global, name: &Octets) -> Result<Octets, ToolFault>
-    ensures name { IfOk result (λ found. found ≡ temporary_checkpoint name.now) }
+/// The first of some places for which the plan has this name.
+pub fn find_place(plan: &Plan, name: &Octets, places: &[Place]) -> Option<Place>
+    ensures { result ≡ find (is_named plan.now name.now) places.now }
+{
+    places
+        .iter()
+        .copied()
+        .find(|place| is_named(plan, *place, name))
+}
+
+/// The name of the file in which the plan's checkpoint is written before it takes its name.
+pub(crate) fn temporary_checkpoint(alloc: Global, plan: &Plan) -> Result<Option<Octets>, ToolFault>
+    ensures name { IfOk result (λ found. found ≡ option_map temporary_checkpoint plan.now.checkpoint) }
     ensures refused { IfErr result IsNoMemory }
 {
-    Ok(Octets::new(temporary_name(alloc, name.as_slice())?))
+    match &plan.checkpoint {
+        Some(name) => Ok(Some(Octets::new(temporary_name(alloc, name.as_slice())?))),
+        None => Ok(None),
+    }
 }
 
 /// The file at a place would be written over the one at another.
@@ -59,87 +69,29 @@ pub struct Clash {
     pub over: Place,
 }
 
-/// The first of some places for which the plan has this name.
-pub fn find_place(plan: &Plan, name: &Octets, places: &[Place]) -> Option<Place>
-    ensures { result ≡ find (is_named plan.now name.now) places.now }
-{
-    for place in places {
-        if is_named(plan, *place, name) {
-            return Some(*place);
-        }
-    }
-    None
-}
-
-// The place of the first file over which a file would be written that has this name, for the place where it is written.
-fn find_named(plan: &Plan, name: &Octets, written: Place) -> Option<Place>
-    ensures { result ≡ named_over plan.now name.now written }
-{
-    find_place(plan, name, written.others())
-}
-
-// Over which file the file at a place would be written, if over any: by its name, or by what its name stands for.
+// The clash of the file at a place, which has this name if the plan has one there: by the name, or by what it stands for.
 fn find_over(
     plan: &Plan,
     identities: &FileIdentities,
-    name: &Octets,
     written: Place,
+    name: Option<&Octets>,
 ) -> Option<Clash>
-    ensures { result ≡ clash_over plan.now identities.now written name.now }
+    ensures { result ≡ clash_over plan.now identities.now written (option_map (λ n. n.now) name.entry) }
 {
-    let over = match find_named(plan, name, written) {
-        None => identities.find_clash(written),
-        found => found,
-    };
-    match over {
-        Some(over) => Some(Clash { written, over }),
-        None => None,
-    }
-}
-
-// The clash of the checkpoint, or of the file beside it.
-fn find_checkpoint_clash(
-    alloc: Global,
-    plan: &Plan,
-    identities: &FileIdentities,
-) -> Result<Option<Clash>, ToolFault>
-    ensures clash { IfOk result (λ found. found ≡ checkpoint_clash plan.now identities.now plan.now.checkpoint) }
-    ensures refused { IfErr result IsNoMemory }
-{
-    let Some(name) = &plan.checkpoint else {
-        return Ok(None);
-    };
-    let new_name = temporary_checkpoint(alloc, name)?;
-    match find_over(plan, identities, name, Place::Checkpoint) {
-        None => Ok(find_over(plan, identities, &new_name, Place::TemporaryCheckpoint)),
-        found => Ok(found),
-    }
-}
-
-// The clash of the report.
-fn find_report_clash(plan: &Plan, identities: &FileIdentities) -> Option<Clash>
-    ensures { result ≡ report_clash plan.now identities.now plan.now.report }
-{
-    match &plan.report {
-        Some(name) => find_over(plan, identities, name, Place::Report),
-        None => None,
-    }
+    let over = find_place(plan, name?, written.others()).or(identities.find_clash(written))?;
+    Some(Clash { written, over })
 }
 
 // The clash of standard output, where the plan writes to it.
 fn find_output_clash(plan: &Plan, identities: &FileIdentities) -> Option<Clash>
     ensures { result ≡ output_clash plan.now identities.now }
 {
+    let written = Place::Output;
     if !writes_output(plan) {
         return None;
     }
-    match identities.find_clash(Place::Output) {
-        Some(over) => Some(Clash {
-            written: Place::Output,
-            over,
-        }),
-        None => None,
-    }
+    let over = identities.find_clash(written)?;
+    Some(Clash { written, over })
 }
 
 /// The first clash of the plan's files. The checkpoint is looked at first, then the file beside it, the report, and standard output. Two names
@@ -152,36 +104,38 @@ pub fn find_clash(
     ensures clash { IfOk result (λ found. found ≡ clash_of plan.now identities.now) }
     ensures refused { IfErr result IsNoMemory }
 {
-    if let Some(clash) = find_checkpoint_clash(alloc, plan, identities)? {
-        return Ok(Some(clash));
-    }
-    match find_report_clash(plan, identities) {
-        None => Ok(find_output_clash(plan, identities)),
-        found => Ok(found),
-    }
+    let beside = temporary_checkpoint(alloc, plan)?;
+    let of_checkpoint = find_over(
+        plan,
+        identities,
+        Place::Checkpoint,
+        plan.checkpoint.as_ref(),
+    );
+    let of_beside = find_over(
+        plan,
+        identities,
+        Place::TemporaryCheckpoint,
+        beside.as_ref(),
+    );
+    let of_report = find_over(plan, identities, Place::Report, plan.report.as_ref());
+    let of_output = find_output_clash(plan, identities);
+    Ok(of_checkpoint.or(of_beside).or(of_report).or(of_output))
 }
 
-// The fault of a file that would be written: it names the file, and only standard output has no name.
+// The fault of a clash: it names the file that would be written, and only standard output has no name.
 #[tactic(auto, using(crate::proofs::FaultLemmas::fault_there, crate::proofs::FaultLemmas::fault_exactly))]
-fn fault_of_file(alloc: Global, name: &Option<Octets>) -> ToolFault
-    ensures fault { IsNoMemory result ⊎ (result ≡ fault_of_file name.now) }
-    ensures named { HasFault name.now result ⊎ IsRunFault result }
-{
-    match name {
-        Some(name) => file_fault(alloc, name),
-        None => stream_fault(Stream::Output),
-    }
-}
-
-// The fault of a clash.
 fn clash_fault(alloc: Global, plan: &Plan, clash: Clash) -> ToolFault
     ensures fault { IsNoMemory result ⊎ (result ≡ fault_of_clash plan.now clash) }
     ensures refused { HasFault plan.now.report result ⊎ HasFault plan.now.checkpoint result ⊎ IsRunFault result }
 {
-    match clash.written {
-        Place::Output => stream_fault(Stream::Output),
-        Place::Report => fault_of_file(alloc, &plan.report),
-        _ => fault_of_file(alloc, &plan.checkpoint),
+    let name = match clash.written {
+        Place::Output => None,
+        Place::Report => plan.report.as_ref(),
+        _ => plan.checkpoint.as_ref(),
+    };
+    match name {
+        Some(name) => file_fault(alloc, name),
+        None => stream_fault(Stream::Output),
     }
 }
 

@@ -11,11 +11,11 @@ use Rattle.tm_checkpoint.specs.Checkpoints.{spelled_in}
 use Rattle.tm_checkpoint.proofs.CheckpointLemmas.{read_again}
 use Rattle.tm_output.specs.declared.command.Command.{Command}
 use Rattle.tm_output.specs.declared.command.Command.TheVariants.{Extract}
-use Rattle.tm_output.specs.Listing.{listing}
+use Rattle.tm_tool.specs.Listing.{listing}
 use Rattle.tm_output.specs.Outputs.{line_piece, line_pieces}
 use Rattle.tm_output.specs.Pieces.{text_of}
 use Rattle.tm_output.specs.Records.{records, rest_of}
-use Rattle.tm_output.proofs.ListingLemmas.{record_lines-append}
+use Rattle.tm_tool.proofs.ListingLemmas.{record_lines-append}
 use Rattle.tm_output.proofs.RecordLemmas.{records_front, records_sized, records_whole, rest_front}
 use Rattle.tm_tool.specs.HeadPieces.{head_pieces}
 use Rattle.tm_tool.specs.Resuming.{run_pieces}

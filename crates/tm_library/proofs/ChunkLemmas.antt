@@ -1,23 +1,31 @@
 -- A recording whose octets that are done are given as zeros.
-use Rattle.std.proofs.Common.{◌≡◌, ◌≤◌, ◌<◌, ℕ, ◌+◌, ◌*◌, Bool, true, false, List, [], ◌∷◌, ◌++◌, length, take, drop, replicate, refl, sym, ap, ◌∙◌, arith, Option, Some, Ok}
+use Rattle.std.proofs.Common.{◌≡◌, ◌≤◌, ◌<◌, ℕ, ◌+◌, ◌*◌, Bool, true, false, List, [], ◌∷◌, ◌++◌, length, take, drop, replicate, refl, sym, ap, ◌∙◌, arith, inl, inr, Option, Some, Ok}
 use Rattle.std.proofs.lemmas.Grind.{common_steps}
-use Rattle.std.proofs.lemmas.List.{length-replicate}
+use Rattle.std.proofs.lemmas.List.{length-replicate, map-append}
 use Rattle.std.proofs.KnownBytes.{Appends-nil, Appends-trans}
 use Rattle.std.proofs.Math.Seq.{drop-append_seam}
 use Rattle.std.specs.Io.KnownBytes.{Appends}
 use Rattle.std.specs.List.{concat}
 use Rattle.tm_frame.specs.Layout.{most_records}
 use Rattle.tm_frame.specs.Rules.{Rules}
+use Rattle.tm_frame.specs.declared.layout.LayoutParts.{LayoutParts}
 use Rattle.tm_checkpoint.specs.Checkpoints.{resumed}
 use Rattle.tm_checkpoint.specs.Works.{JobState, Work, new_job}
 use Rattle.tm_output.specs.declared.command.Command.{Command}
 use Rattle.tm_output.specs.declared.command.Ending.{Ending}
 use Rattle.tm_faults.specs.declared.run.RunFault.{RunFault}
 use Rattle.tm_faults.specs.declared.run.RunFault.TheVariants.{ShortRecording, TooMany}
-use Rattle.tm_output.specs.Outputs.{AppendsPieces, Piece, View, line_pieces, reports}
+use Rattle.tm_output.specs.Outputs.{AppendsPieces, Piece, View, line_piece, line_pieces, octets_buffering, reports}
 use Rattle.tm_output.specs.Pieces.{text_of, buffering_of}
 use Rattle.tm_output.specs.Records.{AreRecords, record_count, records, rest_of}
 use Rattle.tm_output.specs.declared.totals.Totals.{Totals}
+use Rattle.tm_tool.specs.Courses.{RecordCourse, whole}
+use Rattle.tm_tool.specs.Listing.{listing_course}
+use Rattle.tm_tool.specs.declared.listing.Listed.{Listed}
+use Rattle.tm_tool.specs.code.Listed.{Lists}
+use Rattle.tm_tool.proofs.Courses.{run_whole}
+use Rattle.tm_output.proofs.LinePieces.{lines_out}
+use Rattle.tm_tool.proofs.ListingLemmas.{is_course}
 use Rattle.tm_output.proofs.RecordLemmas.{count_front, records_counted, records_front, rest_front}
 use Rattle.tm_tool.specs.HeadPieces.{head_pieces}
 use Rattle.tm_tool.specs.RecordingPieces.{further, pieces, records_for, worked}
@@ -25,7 +33,7 @@ use Rattle.tm_tool.specs.Runs.{IsHeadedStop, IsSoundWork, Outcome, Ran, StoppedI
 use Rattle.tm_tool.proofs.HeadedRuns.{stop_told}
 use Rattle.tm_tool.proofs.Passing.{cut_records}
 use Rattle.tm_tool.proofs.RunPieces.{ran_told}
-use Rattle.tm_library.specs.Chunks.{Holds, chunk_ending, chunk_pieces, job_in, size_of, totals_by}
+use Rattle.tm_library.specs.Chunks.{Holds, chunk_ending, chunk_pieces, job_in, lines_from, size_of, totals_by}
 
 -- ---- a job has the settings that it was resumed with
 
@@ -58,23 +66,40 @@ module _ (w : Work) (octets : List ℕ) (done : ℕ) (is : done ≡ w.state.reco
   abbrev cut : (read : List (List ℕ)) × AreRecords (size_of w) read × (length read ≡ w.state.records) × (concat read ≡ replicate done 0)
   cut = cut_records (size_of w) w.state.records (replicate done 0) (length-replicate done 0 ∙ is)
 
-  whole : concat cut.0 ++ octets ≡ replicate done 0 ++ octets
-  whole = ap (λ (l : List ℕ). l ++ octets) cut.3
+  zeros_are : concat cut.0 ++ octets ≡ replicate done 0 ++ octets
+  zeros_are = ap (λ (l : List ℕ). l ++ octets) cut.3
 
   further_is : further w (replicate done 0 ++ octets) ≡ records (size_of w) octets
   further_is =
-      ap (further w) (sym whole) ∙ ap (drop w.state.records) (records_front (size_of w) some cut.0 octets cut.1)
+      ap (further w) (sym zeros_are) ∙ ap (drop w.state.records) (records_front (size_of w) some cut.0 octets cut.1)
       ∙ ap (λ (n : ℕ). drop n (cut.0 ++ records (size_of w) octets)) (sym cut.2) ∙ drop-append_seam cut.0 (records (size_of w) octets)
 
   rest_is : rest_of (size_of w) (replicate done 0 ++ octets) ≡ rest_of (size_of w) octets
-  rest_is = ap (rest_of (size_of w)) (sym whole) ∙ rest_front (size_of w) some cut.0 octets cut.1
+  rest_is = ap (rest_of (size_of w)) (sym zeros_are) ∙ rest_front (size_of w) some cut.0 octets cut.1
 
   pub count_is : record_count (size_of w) (replicate done 0 ++ octets) ≡ w.state.records + length (records (size_of w) octets)
   count_is =
-      ap (record_count (size_of w)) (sym whole) ∙ omega (arith, count_front (size_of w) some cut.0 octets cut.1, cut.2, records_counted (size_of w) some octets)
+      ap (record_count (size_of w)) (sym zeros_are) ∙ omega (arith, count_front (size_of w) some cut.0 octets cut.1, cut.2, records_counted (size_of w) some octets)
 
   pub taken_is : (last : Bool) → records_for (chunk_ending last) (further w (replicate done 0 ++ octets)) ≡ records (size_of w) octets
   taken_is last = all_taken last (further w (replicate done 0 ++ octets)) ∙ further_is
+
+  -- the lines of the octets are the pieces of their list
+  lines_are : (last : Bool) → whole (listing_course w.rules.layout w.state.records (chunk_ending last)) (replicate done 0 ++ octets)
+      ≡ line_pieces (lines_from w.rules.layout w.state.records last octets)
+  lines_are last = rw (taken_is last, rest_is) (sym (map-append line_piece _ _))
+
+  -- so they were written
+  pub lists_lines : (last : Bool) (ending : Ending) → ending ≡ chunk_ending last → (layout : LayoutParts) → layout ≡ w.rules.layout → (left : Option (List ℕ)) (failures : ℕ) (old new : View (Option (List ℕ)))
+      (listed : Listed) → Lists layout w.state.records ending (devices_at (Some (replicate done 0 ++ octets)) 0 old) (devices_at left failures new) (Ok listed)
+      → Appends old.out new.out (concat (lines_from w.rules.layout w.state.records last octets))
+  lists_lines last ending ends layout same left failures old new listed (inr h) = absurd (cc)
+  lists_lines last ending ends layout same left failures old new listed (inl h) =
+      let run = rw (ends, same) at h.0 in
+      let c : RecordCourse ℕ = listing_course w.rules.layout w.state.records (chunk_ending last) in
+      let took = run_whole c (is_course w.rules.layout w.state.records (chunk_ending last)) some (Some (replicate done 0 ++ octets)) left
+      Appends Appends-nil Appends-trans octets_buffering old new _ run in
+      rw (lines_are last, lines_out) at took.whole.0
 
 module _ (command : Command) (last : Bool) (job : JobState) (octets : List ℕ) (done : ℕ) (is : done ≡ job.work.state.records * size_of job.work) where
   abbrev its_pieces : List (Piece ℕ)

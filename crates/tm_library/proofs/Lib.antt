@@ -2,4 +2,3 @@ pub mod Zeros
 pub mod ChunkLemmas
 pub mod CallLemmas
 pub mod RefusalLemmas
-pub mod ListLemmas

@@ -15,7 +15,7 @@ use Rattle.tm_output.specs.declared.command.Command.{Command}
 use Rattle.tm_output.specs.declared.command.Command.TheVariants.{Extract}
 use Rattle.tm_output.specs.declared.command.Ending.{Ending}
 use Rattle.tm_output.specs.declared.command.Ending.TheVariants.{Close, Keep}
-use Rattle.tm_output.specs.Listing.{record_lines, rest_lines}
+use Rattle.tm_tool.specs.Listing.{end_lines, record_lines}
 use Rattle.tm_output.specs.Outputs.{Piece, line_pieces, outs, reports}
 use Rattle.tm_output.specs.Pieces.{text_of}
 use Rattle.tm_output.specs.Records.{record_count, records, rest_of}
@@ -72,14 +72,10 @@ chunk_pieces command last job octets =
     ++ pieces_after (text_of command) (chunk_ending last) job.work (records (size_of job.work) octets) (length (rest_of (size_of job.work) octets))
 
 -- the lines of the whole records of octets, the first being record `first`, and behind the last chunk that of a rest
-abbrev pub end_lines : Bool → ℕ → ℕ → List (List ℕ)
-end_lines true seen rest = rest_lines seen rest
-end_lines false seen rest = []
-
 abbrev pub lines_from : LayoutParts → ℕ → Bool → List ℕ → List (List ℕ)
 lines_from layout first last octets =
     record_lines layout first (records (record_length_of layout) octets)
-    ++ end_lines last (first + length (records (record_length_of layout) octets)) (length (rest_of (record_length_of layout) octets))
+    ++ end_lines (chunk_ending last) (first + length (records (record_length_of layout) octets)) (length (rest_of (record_length_of layout) octets))
 
 -- the lines of a chunk's frames, numbered behind the records that are done
 abbrev pub frame_lines : Bool → JobState → List ℕ → List (List ℕ)

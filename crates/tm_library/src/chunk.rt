@@ -7,7 +7,7 @@ use tm_tool::{BufferedSource, DeviceFailed};
 
 /// The recording that a run over a chunk reads: the octets that are done stand as zeros, and a run passes over them and reads none. Behind them
 /// come the octets of the chunk.
-#[derive(Drop)]
+#[derive(Clone, Copy)]
 pub struct Chunk<'a> {
     /// How many octets are done and not passed over yet.
     pub done: u64,

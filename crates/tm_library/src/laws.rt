@@ -7,7 +7,7 @@ ghost use Rattle.tm_frame.specs.Rules.{IsLimit, Rules};
 ghost use Rattle.tm_reassembly.specs.Valid.{AllOctets};
 ghost use Rattle.tm_checkpoint.specs.Works.{new_job};
 ghost use Rattle.tm_output.specs.declared.command.Command.{Command};
-ghost use Rattle.tm_output.specs.Listing.{listing};
+ghost use Rattle.tm_tool.specs.Listing.{listing};
 ghost use Rattle.tm_output.specs.Outputs.{line_pieces};
 ghost use Rattle.tm_output.specs.Pieces.{text_of};
 ghost use Rattle.tm_output.specs.Records.{records};

@@ -1,14 +1,12 @@
 //! The frames of a chunk, into a room.
 
-ghost use Rattle.std.specs.Prelude.{◌≡◌, ◌<◌, ◌+◌, ◌*◌, ◌^◌, length, option_map, IfOk, IfErr, OnOk};
+ghost use Rattle.std.specs.Prelude.{◌≡◌, ◌+◌, ◌*◌, length, option_map, IfOk, IfErr};
 ghost use Rattle.std.specs.List.{concat};
-ghost use Rattle.std.specs.Io.KnownBytes.{Appends};
-ghost use Rattle.tm_frame.specs.Layout.{record_length_of};
 ghost use Rattle.tm_output.specs.declared.command.Command.TheVariants.{Extract};
 ghost use Rattle.tm_output.specs.Records.{records};
 ghost use Rattle.tm_tool.specs.RecordingPieces.{worked};
 ghost use Rattle.tm_tool.specs.Runs.{kept_of};
-ghost use Rattle.tm_library.specs.Chunks.{Holds, chunk_ending, frame_lines, lines_from, size_of, totals_by};
+ghost use Rattle.tm_library.specs.Chunks.{Holds, chunk_ending, frame_lines, size_of, totals_by};
 ghost use Rattle.tm_library.specs.Refusals.{IsRunRefused};
 
 use crate::Refusal;
@@ -18,9 +16,7 @@ use crate::running::{Given, chunk_ending};
 use std::alloc::Global;
 use tm_devices::Room;
 use tm_frame::Layout;
-use tm_lines::LineBuffer;
-use tm_output::{write_record_line, write_rest_line};
-use tm_tool::{Command, DeviceFailed, Done, Drain, Job, RunFault, run};
+use tm_tool::{Command, Done, Job, RunFault, list_behind, run};
 
 // Runs over a chunk for the job alone: what is given goes nowhere.
 fn pass_chunk(alloc: Global, job: Job, chunk: Chunk<'_>) -> Result<Done, Refusal>
@@ -53,35 +49,6 @@ fn pass_chunk(alloc: Global, job: Job, chunk: Chunk<'_>) -> Result<Done, Refusal
     }
 }
 
-// Writes a line for each whole record, the first being record `first`, and one for octets that are left where the recording ends behind them.
-fn write_lines<W: Drain>(
-    layout: &Layout,
-    first: u32,
-    octets: &[u8],
-    last: bool,
-    out: &mut W,
-) -> Result<(), DeviceFailed>
-    requires { first + length (records (record_length_of layout.now) octets.now) < 2 ^ 32 }
-    ensures same { W.fixed out.new ≡ W.fixed out.old }
-    ensures written { OnOk result (Appends (W.written out.old) (W.written out.new)
-        (concat (lines_from layout.now first last octets.now))) }
-{
-    let size = layout.record_length();
-    let mut line = LineBuffer::new();
-    let mut seen = first;
-    let mut left = octets;
-    while size <= left.len() {
-        let (record, behind) = left.split_at(size);
-        write_record_line(&mut line, layout, seen, record, out)?;
-        left = behind;
-        seen += 1;
-    }
-    if last {
-        return write_rest_line(&mut line, seen, left.len(), out);
-    }
-    Ok(())
-}
-
 /// Lists the frames of a chunk that follows what the job has done. The job that is kept is the one that a run over the chunk keeps.
 pub fn list_into_room(
     alloc: Global,
@@ -107,21 +74,23 @@ pub fn list_into_room(
     ensures refused { IfErr result (IsRunRefused job chunk.entry.octets.now) }
 {
     let first = job.records();
-    let (octets, last) = (chunk.octets, chunk.last);
+    let ending = chunk_ending(chunk.last);
+    let mut recording = chunk;
     let done = match pass_chunk(alloc, job, chunk) {
         Ok(done) => done,
         Err(refusal) => return Err(refusal),
     };
     let mut more = Vec::new(alloc);
     let mut room = Room::new(out, &mut more);
-    match write_lines(layout, first, octets, last, &mut room) {
-        Ok(()) => Ok(Given {
+    match list_behind(alloc, *layout, first, &mut recording, &mut room, ending) {
+        Ok(_) => Ok(Given {
             records: done.records,
             kept: done.kept,
             out: room.length(),
             report: 0,
             totals: done.totals,
         }),
+        // All records were taken before, so what can be wanting is memory.
         Err(_) => Err(Refusal::NoMemory),
     }
 }

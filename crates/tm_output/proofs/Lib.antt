@@ -1,5 +1,5 @@
-pub mod ListingLemmas
 pub mod RecordLemmas
+pub mod LeadLemmas
 pub mod LinePieces
 pub mod PieceLemmas
 pub mod PacketLemmas

@@ -1,5 +1,5 @@
 -- Lines that are written one after the other to one output, and where writing stops.
-use Rattle.std.proofs.Common.{◌≡◌, ℕ, true, List, [], ◌∷◌, ◌++◌, refl, ap, Option, None, Result, Ok, Err}
+use Rattle.std.proofs.Common.{false, sym, ⊎_elim, ◌≡◌, ℕ, true, List, [], ◌∷◌, ◌++◌, refl, ap, Option, None, Result, Ok, Err}
 use Rattle.std.specs.List.{concat}
 use Rattle.std.specs.Io.KnownBytes.{Appends, Keeps}
 use Rattle.std.proofs.KnownBytes.{Appends-kept, Appends-nil, Appends-trans}
@@ -8,7 +8,7 @@ use Rattle.std.specs.Result.{OnErr}
 use Rattle.tm_devices.specs.Devices.{AppendsPrefix, Counts, raised}
 use Rattle.tm_faults.specs.declared.run.RunFault.{RunFault}
 use Rattle.tm_faults.specs.declared.run.RunFault.TheVariants.{Write}
-use Rattle.tm_output.specs.Outputs.{AppendsCut, Piece, Stopped, Took, View, Buffering, line_piece, line_pieces, outs, reports, view}
+use Rattle.tm_output.specs.Outputs.{WantsMemory, octets_buffering, AppendsCut, Piece, Stopped, Took, View, Buffering, line_piece, line_pieces, outs, reports, view}
 use Rattle.tm_output.proofs.PieceLemmas.{cut_all, cut_more, cut_none, flush_out, stopped_put, took_failed, took_stopped, took_took}
 
 pub lines_out : (ls : List (List ℕ)) → outs (line_pieces ls) ≡ concat ls
@@ -42,20 +42,21 @@ module _ (old new : View (Option (List ℕ))) where
   pub same_cut : (ps : List (Piece ℕ)) → new ≡ old → AppendsCut Appends old new ps
   same_cut ps same = rw same ([], [], cut_none ps, Appends-nil old.out, Appends-nil old.report)
 
-  -- all was
-  pub took_cut : (ps : List (Piece ℕ)) → Took Appends old new ps → AppendsCut Appends old new ps
-  took_cut ps took = (outs ps, reports ps, cut_all ps, took.whole.0, took.whole.1)
-
-  pub cut_before : (xs ys : List (List ℕ)) → AppendsCut Appends old new (line_pieces xs) → AppendsCut Appends old new (line_pieces (xs ++ ys))
-  cut_before xs ys a = rw (map-append line_piece xs ys) (a.0, a.1, cut_more (line_pieces xs) (line_pieces ys) a.0 a.1 a.2, a.3, a.4)
-
 -- ---- lines behind lines
 
 module _ (old mid new : View (Option (List ℕ))) (xs ys : List (List ℕ)) where
   pub lines_lines : Took Appends old mid (line_pieces xs) → Took Appends mid new (line_pieces ys) → Took Appends old new (line_pieces (xs ++ ys))
   lines_lines a b = rw (map-append line_piece xs ys) (took_took Appends Appends-nil Appends-trans old mid new (line_pieces xs) (line_pieces ys) a b)
 
-  pub lines_stopped : {buffering : Buffering} (fault : RunFault) → Took Appends old mid (line_pieces xs)
-      → Stopped Appends buffering mid new (line_pieces ys) fault → Stopped Appends buffering old new (line_pieces (xs ++ ys)) fault
-  lines_stopped {buffering} fault a b =
-      rw (map-append line_piece xs ys) (took_stopped Appends Appends-nil Appends-trans buffering old mid new _ _ a fault b)
+-- ---- no line has a text for the report
+
+line_report : (ls : List (List ℕ)) (done : List (Piece ℕ)) (next : Piece ℕ) (more : List (Piece ℕ)) → line_pieces ls ≡ done ++ next ∷ more → next.report ≡ []
+line_report [] [] next more e = absurd (cc)
+line_report [] (d ∷ done) next more e = absurd (cc)
+line_report (l ∷ ls) [] next more e = let same : line_piece l ≡ next = cc in ap (λ (p : Piece ℕ). p.report) (sym same)
+line_report (l ∷ ls) (d ∷ done) next more e = line_report ls done next more (cc)
+
+-- so none takes memory
+pub no_memory : {old new : View (Option (List ℕ))} (ls : List (List ℕ)) → WantsMemory Appends octets_buffering old new (line_pieces ls) → ⊥
+no_memory ls wants =
+    ⊎_elim (λ made. let made_is : false ≡ true = made.0 in cc) (λ (some : wants.next.report ≡ [] → ⊥). some (line_report ls wants.done wants.next wants.more wants.split)) wants.stopped.1

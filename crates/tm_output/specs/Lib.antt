@@ -1,6 +1,5 @@
 pub mod Records
 pub mod Faults
-pub mod Listing
 pub mod Outputs
 pub mod FieldRows
 pub mod Pieces

@@ -1,7 +1,10 @@
 -- The pieces of items: for each item what belongs to `out`, and its lines for the report.
 use Rattle.std.specs.Prelude.{⊤, ℕ, Bool, ◌/◌, ◌%◌, List, [], ◌∷◌, ◌++◌, length, map}
 use Rattle.std.specs.List.{flat_map}
+use Rattle.std.specs.Int.{to_le_bytes, w16, w32}
 use Rattle.tm_fields.specs.declared.field.Field.{Field}
+use Rattle.tm_fields.specs.declared.rows.RowForm.{RowForm}
+use Rattle.tm_fields.specs.declared.rows.RowForm.TheVariants.{Text, Binary}
 use Rattle.tm_packet.specs.declared.notes.Note.{Note}
 use Rattle.tm_packet.specs.declared.tracker.Unclosed.{Unclosed}
 use Rattle.tm_packet.specs.Header.{packet_header_of}
@@ -9,7 +12,7 @@ use Rattle.tm_packet.specs.Merge as sequence
 use Rattle.tm_packet.specs.Merge.{Entries, Sent}
 use Rattle.tm_items.specs.Item.{Item, Bad, MasterGap, Gap, Vca, Dropped, Packet, Short}
 use Rattle.tm_output.specs.declared.command.Command.{Command}
-use Rattle.tm_output.specs.declared.command.Command.TheVariants.{Extract, Packets, Fields}
+use Rattle.tm_output.specs.declared.command.Command.TheVariants.{Extract, Packets, Fields, BinaryPackets, BinaryFields}
 use Rattle.tm_items.specs.Among.{is_packet_item}
 use Rattle.tm_output.specs.FieldRows.{has_row, tabled, too_short}
 use Rattle.tm_lines.specs.Lines.{bad_line, drop_line, gap_line, master_gap_line, note_line, note_lines, packet_line, short_line, vca_line}
@@ -70,25 +73,40 @@ unfoldable pub listed : Item → List ℕ
 listed (Packet seen channel first place octets) = packet_line seen channel first place (packet_header_of octets) (length octets)
 listed _ = []
 
+-- The 16 octets before a packet in the binary form. They have the record that completes it, the one in which it begins and its place
+-- there, its channel, a zero, and how many octets it has. Numbers have the least significant octet first.
+abbrev pub packet_lead : (seen channel first place size : ℕ) → List ℕ
+packet_lead seen channel first place size =
+    to_le_bytes w32 seen ++ to_le_bytes w32 first ++ to_le_bytes w16 place ++ channel ∷ 0 ∷ to_le_bytes w32 size
+
+-- the octets of a packet behind them
+unfoldable pub binary_packet : Item → List ℕ
+binary_packet (Packet seen channel first place octets) = packet_lead seen channel first place (length octets) ++ octets
+binary_packet _ = []
+
 -- nothing more for the report
 abbrev pub no_remark : Item → List ℕ
 no_remark _ = []
 
--- the row of a packet, and the line for one that is too short
-abbrev pub rows_text : List Field → ℕ → Texts ℕ
-rows_text fields application = record { out = tabled fields application; remark = too_short fields application; given = has_row fields application }
+-- the row of a packet in a form, and the line for one that is too short
+abbrev pub rows_text : RowForm → List Field → ℕ → Texts ℕ
+rows_text form fields application = record { out = tabled form fields application; remark = too_short fields application; given = has_row fields application }
 
 -- what a command gives of an item
 abbrev pub text_of : Command → Texts ℕ
 text_of Extract = record { out = packet_octets; remark = no_remark; given = is_packet_item }
 text_of Packets = record { out = listed; remark = no_remark; given = is_packet_item }
-text_of (Fields definition application) = rows_text definition.now application
+text_of (Fields definition application) = rows_text Text definition.now application
+text_of BinaryPackets = record { out = binary_packet; remark = no_remark; given = is_packet_item }
+text_of (BinaryFields definition application) = rows_text Binary definition.now application
 
 -- how it is written
 abbrev pub buffering_of : Command → Buffering
 buffering_of Extract = octets_buffering
 buffering_of Packets = octets_buffering
 buffering_of (Fields definition application) = lines_buffering
+buffering_of BinaryPackets = octets_buffering
+buffering_of (BinaryFields definition application) = lines_buffering
 
 -- ---- of items, by what is given of each
 

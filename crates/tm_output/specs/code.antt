@@ -1,6 +1,4 @@
 pub mod Sinking
 pub mod Outlets
 pub mod ShelfLaws
-pub mod Next
-pub mod Listed
 pub mod Quiet

@@ -11,6 +11,12 @@ pub enum Command<'a> {
     Packets,
     /// Behind a head, a row for each packet of this application that has all bits of the definition's fields.
     Fields(&'a Definition, u16),
+    /// For each 16 octets, and then its own. First come the record that completes it and the one in which it begins, in four octets
+    /// each, and its place there in two. Then come its channel, a zero, and in four octets how many it has. Numbers have the least
+    /// significant octet first.
+    BinaryPackets,
+    /// The rows of `Fields` in octets, as `RowForm::Binary` has them, and no head.
+    BinaryFields(&'a Definition, u16),
 }
 
 /// Where a run ends.

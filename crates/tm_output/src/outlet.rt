@@ -1,19 +1,19 @@
 //! Where packets go: their octets into a drain or a shelf, or a line or a row for each into a drain.
 
-ghost use Rattle.std.specs.Prelude.{◌≡◌, ◌≢◌, ◌++◌, ◌==◌, [], ℕ, Bool, true, false, List, Option, OnOk, OnErr, IfErr, IfOk, refl};
+ghost use Rattle.std.specs.Prelude.{◌≡◌, ◌≢◌, ◌++◌, ◌==◌, [], ℕ, Bool, true, false, List, Option, OnOk, OnErr, IfErr, IfOk, length, refl};
 ghost use Rattle.std.specs.List.{flat_map};
 ghost use Rattle.std.specs.Io.KnownBytes.{Appends, Keeps};
 ghost use Rattle.std.proofs.KnownBytes.{Appends-nil, Appends-trans};
 ghost use Rattle.tm_items.specs.Among.{is_packet_item};
 ghost use Rattle.tm_items.specs.Item.{Item};
 ghost use Rattle.tm_items.specs.Fronts.{octets_of, placed};
-ghost use Rattle.tm_devices.specs.Devices.{Counts, raised};
+ghost use Rattle.tm_devices.specs.Devices.{AppendsPrefix, Counts, raised};
 ghost use Rattle.tm_output.specs.FieldRows.{tabled};
 ghost use Rattle.tm_output.specs.Packets.{HasHeader, item_with};
-ghost use Rattle.tm_output.specs.code.Outlets.{GivesNone, PutStopped, appends_split, listed_none, octets_joined, octets_none, packet_none};
+ghost use Rattle.tm_output.specs.code.Outlets.{GivesNone, PutStopped, appends_split, binary_none, listed_none, octets_joined, octets_none, packet_none};
 ghost use Rattle.tm_output.specs.code.Quiet.{outs_of, span_items};
 ghost use Rattle.tm_output.specs.Outputs.{FixedDrain, PutsPart, Buffering, lines_buffering, octets_buffering};
-ghost use Rattle.tm_output.specs.Pieces.{HasLine, Texts, listed, no_remark, packet_octets};
+ghost use Rattle.tm_output.specs.Pieces.{HasLine, Texts, binary_packet, listed, no_remark, packet_lead, packet_octets};
 ghost use Rattle.tm_output.specs.Totals.{is_some_text};
 ghost use Rattle.tm_output.specs.code.ShelfLaws.{no_shelf, shelves_nil, shelves_split, shelves_trans};
 ghost use Rattle.tm_output.specs.Shelves.{Shelved, Shelves, shelf_text, shelf_buffering};
@@ -141,10 +141,14 @@ pub trait PacketText {
     fn can_join(&self) -> bool
         ensures { result ≡ can_join };
 
-    /// The octets of a packet's text.
-    fn octets<'t>(&'t mut self, packet: &'t Packet<'_>) -> &'t [u8]
+    /// Writes the text of a packet, whole or a part of it.
+    fn write<W: Drain>(&mut self, out: &mut W, packet: &Packet<'_>) -> Result<(), DeviceFailed>
         requires { HasHeader packet.now }
-        ensures { result.now ≡ text (item_with packet.now) };
+        ensures same { W.fixed out.new ≡ W.fixed out.old }
+        ensures whole { OnOk result (Appends (W.written out.old) (W.written out.new) (text (item_with packet.now))) }
+        ensures prefix { OnErr result (AppendsPrefix (W.written out.old) (W.written out.new)
+            (text (item_with packet.now))) }
+        ensures counts { Counts (W.failures out.old) (W.failures out.new) result };
 
     /// An item that has a line has no text here.
     ghost text_none: { (x : Item) → HasLine x → text x ≡ [] };
@@ -173,8 +177,8 @@ impl PacketText for PacketOctets {
 
     #[inline(always)]
     #[tactic(auto, unfolding(crate::specs::Pieces::packet_octets))]
-    fn octets<'t>(&'t mut self, packet: &'t Packet<'_>) -> &'t [u8] {
-        packet.octets
+    fn write<W: Drain>(&mut self, out: &mut W, packet: &Packet<'_>) -> Result<(), DeviceFailed> {
+        write_all(out, packet.octets)
     }
 }
 
@@ -202,9 +206,57 @@ impl PacketText for PacketLines {
 
     #[inline(always)]
     #[tactic(auto, unfolding(crate::specs::Pieces::listed))]
-    fn octets<'t>(&'t mut self, packet: &'t Packet<'_>) -> &'t [u8] {
+    fn write<W: Drain>(&mut self, out: &mut W, packet: &Packet<'_>) -> Result<(), DeviceFailed> {
         format_packet(&mut self.line, packet);
-        self.line.as_slice()
+        write_all(out, self.line.as_slice())
+    }
+}
+
+// The octets before a packet in the binary form.
+#[inline(always)]
+fn packet_lead(packet: &Packet<'_>) -> [u8; 16]
+    ensures { result ≡ packet_lead packet.now.seen packet.now.channel packet.now.first packet.now.place
+        (length packet.now.octets.now) }
+{
+    let [r0, r1, r2, r3] = packet.seen.to_le_bytes();
+    let [f0, f1, f2, f3] = packet.first.to_le_bytes();
+    let [p0, p1] = packet.place.to_le_bytes();
+    let [n0, n1, n2, n3, ..] = (packet.octets.len() as u64).to_le_bytes();
+    let channel = packet.channel;
+    [
+        r0, r1, r2, r3, f0, f1, f2, f3, p0, p1, channel, 0, n0, n1, n2, n3,
+    ]
+}
+
+/// A packet's octets in the binary form, behind those that tell where it was found.
+#[derive(Drop)]
+pub struct BinaryPackets;
+
+impl PacketText for BinaryPackets {
+    ghost use Rattle.std.proofs.lemmas.Bool.{false≢true};
+
+    ghost text = { binary_packet };
+
+    ghost can_join = { false };
+
+    ghost text_none = { binary_none };
+
+    ghost text_joined = { λ joins. absurd (false≢true joins) };
+
+    fn can_join(&self) -> bool {
+        false
+    }
+
+    #[inline(always)]
+    #[tactic(auto, unfolding(crate::specs::Pieces::binary_packet))]
+    fn write<W: Drain>(&mut self, out: &mut W, packet: &Packet<'_>) -> Result<(), DeviceFailed> {
+        if let Err(fault) = write_all(out, &packet_lead(packet)) {
+            return Err(fault);
+        }
+        match write_all(out, packet.octets) {
+            Ok(()) => Ok(()),
+            Err(fault) => Err(fault),
+        }
     }
 }
 
@@ -262,7 +314,7 @@ impl<W: Drain, T: PacketText> Outlet for PacketTexts<'_, W, T> {
 
     #[inline(always)]
     fn write(&mut self, packet: &Packet<'_>) -> Result<(), RunFault> {
-        match write_all(self.out, self.text.octets(packet)) {
+        match self.text.write(self.out, packet) {
             Ok(()) => Ok(()),
             Err(_) => Err(RunFault::Write),
         }
@@ -397,12 +449,13 @@ fn write_row<W: Drain>(
     requires application { packet.now.header.application ≡ application }
     ensures same { W.fixed out.new ≡ W.fixed out.old }
     ensures fields { rows.new.fields ≡ rows.old.fields }
+    ensures form { rows.new.form ≡ rows.old.form }
     ensures whole { OnOk result (Appends (W.written out.old) (W.written out.new)
-        (tabled rows.old.fields application (item_with packet.now))
+        (tabled rows.old.form rows.old.fields application (item_with packet.now))
         × (W.failures out.new ≡ W.failures out.old)) }
     ensures stopped { IfErr result (PutStopped Appends lines_buffering (W.written out.old) (W.written out.new)
         (W.failures out.old) (W.failures out.new)
-        (tabled rows.old.fields application (item_with packet.now))) }
+        (tabled rows.old.form rows.old.fields application (item_with packet.now))) }
 {
     let lead = Lead {
         seen: packet.seen,
@@ -442,6 +495,7 @@ impl<W: Drain> Outlet for PacketRows<'_, '_, '_, W> {
 
     ghost fixed = { λ o. record {
       out = record { name = o.out.ghost_name; number = W.fixed o.out.now };
+      form = o.rows.now.form;
       fields = o.rows.now.fields;
       application = o.application;
     } };
@@ -452,13 +506,13 @@ impl<W: Drain> Outlet for PacketRows<'_, '_, '_, W> {
 
     ghost grows = { Appends };
 
-    ghost text = { λ f. rows_text f.fields f.application };
+    ghost text = { λ f. rows_text f.form f.fields f.application };
 
     ghost buffering = { lines_buffering };
 
     ghost passed = { λ o. Keeps (W.flushed o.out.now) (W.written o.out.now) };
 
-    ghost text_none = { λ f. no_row f.fields f.application };
+    ghost text_none = { λ f. no_row f.form f.fields f.application };
 
     ghost grows_nil = { Appends-nil };
 

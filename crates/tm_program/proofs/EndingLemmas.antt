@@ -1,22 +1,25 @@
 -- What is done by a run, of what its contract says.
-use Rattle.std.proofs.Common.{◌≡◌, ℕ, List, [], Option, None, Some, Result, Ok, Err, IfOk, inl, inr, option_map, refl, subst, sym, ⊎_elim, ◌∙◌, false}
+use Rattle.std.proofs.Common.{◌≡◌, ℕ, List, [], Option, None, Some, Result, Ok, Err, IfOk, ap, inl, inr, option_map, refl, subst, ⊎_elim, ◌∙◌}
 use Rattle.tm_faults.specs.declared.program.ToolFault.{ToolFault}
 use Rattle.tm_faults.specs.declared.run.RunFault.{RunFault}
 use Rattle.tm_output.specs.declared.command.Ending.{Ending}
 use Rattle.tm_output.specs.Outputs.{Piece, Buffering}
-use Rattle.tm_output.specs.declared.command.Command.TheVariants.{Extract}
-use Rattle.tm_output.specs.Pieces.{Texts, text_of}
+use Rattle.tm_output.specs.Pieces.{Texts}
 use Rattle.tm_output.specs.Shelves.{Shelves, shelf_buffering, shelf_text}
 use Rattle.tm_checkpoint.specs.Works.{JobState, Work}
 use Rattle.tm_tool.specs.Runs.{Devices, IsEnough, Ran, kept_of}
 use Rattle.tm_tool.specs.declared.job.Done.{Done}
 use Rattle.tm_settings.specs.Settings.{Rules}
 use Rattle.tm_fields.specs.declared.field.Field.{Field}
-use Rattle.tm_arguments.specs.declared.request.Action.{Action}
-use Rattle.tm_arguments.specs.declared.request.Action.TheVariants as act
-use Rattle.tm_files.specs.code.Decisions.{is_job}
-use Rattle.tm_program.specs.Found.{Finds, ending_of, ending_with, work_from}
+use Rattle.tm_program.specs.Found.{Finds, ending_of, ending_with, texts_for, totals_over, work_from}
 use Rattle.tm_program.specs.code.Endings.{FindsDone, HasDone, HasShown, IsDone, IsListFound, requested_checkpoint}
+use Rattle.tm_program.specs.code.Tasks.{IsDestination, IsJob, IsOverview, folder_texts, texts_of}
+use Rattle.tm_program.specs.declared.task.Destination.{Destination}
+use Rattle.tm_program.specs.declared.task.Destination.TheVariants.{Output, Folder}
+use Rattle.tm_program.specs.declared.task.JobInputs.{JobInputs}
+use Rattle.tm_program.specs.declared.task.Overview.{Overview}
+use Rattle.tm_program.specs.declared.task.Overview.TheVariants.{Frames, Summary}
+use Rattle.tm_program.specs.declared.task.PacketForm.TheVariants.{Octets, Line, Binary, Row}
 use Rattle.tm_program.specs.declared.outcome.Found.{Found}
 use Rattle.tm_program.specs.declared.outcome.Found.TheVariants as found
 use Rattle.tm_arguments.specs.declared.request.Plan.{Plan}
@@ -38,16 +41,13 @@ abbrev SplitRan : Ending → Work → (old new : Devices (Option (ℕ → List �
 SplitRan ending w old new d = Ran Shelves shelf_buffering shelf_text ending w [] old new d.records (option_map (λ job. job.work) d.kept) d.totals
 
 -- So of splitting, which gives each packet, too. What it ends with is what the run did.
-pub split_ends : (p : Plan) (settings : Rules) (fields : Option (List Field)) (resumed : Option JobState) (ending : Ending) (w : Work)
-    (old new : Devices (Option (ℕ → List ℕ))) (done : Result Done RunFault) (ended : Result Done ToolFault)
-    → p.action ≡ act.Split → ending ≡ ending_of p → w ≡ work_from settings resumed
+pub split_ends : (ending : Ending) (w : Work) (old new : Devices (Option (ℕ → List ℕ))) (done : Result Done RunFault) (ended : Result Done ToolFault)
     → IfOk done (SplitRan ending w old new)
-    → IfOk ended (λ d. done ≡ Ok d) → IfOk ended (HasDone p settings fields resumed)
-split_ends p settings fields resumed ending w old new done (Err fault) is ends works ran same = tt
-split_ends p settings fields resumed ending w old new done (Ok d) is ends works ran same =
+    → IfOk ended (λ d. done ≡ Ok d) → IfOk ended (IsDone folder_texts ending w)
+split_ends ending w old new done (Err fault) ran same = tt
+split_ends ending w old new done (Ok d) ran same =
     let r = subst (λ (result : Result Done RunFault). IfOk result (SplitRan ending w old new)) same ran in
-    let is_done = ran_done Shelves shelf_buffering shelf_text ending w old new [] d (text_of Extract) refl refl r in
-    rw (is, sym ends, sym works) is_done
+    ran_done Shelves shelf_buffering shelf_text ending w old new [] d folder_texts refl refl r
 
 -- a run of a plan with a file for the checkpoint keeps a job
 file_with : (name : Option (List ℕ)) (stop : Option ℕ) (w : Work) (kept : Option JobState) → option_map (λ job. job.work) kept ≡ kept_of (ending_with name stop) w
@@ -60,31 +60,42 @@ file_with (Some name) (Some records) w None is = cc
 file_with (Some name) (Some records) w (Some job) is = refl
 
 -- so the file of the plan's checkpoint takes it
-pub file_of_done : (p : Plan) (settings : Rules) (fields : Option (List Field)) (resumed : Option JobState) (done : Done) → HasDone p settings fields resumed done → requested_checkpoint p.checkpoint done.kept ≡ p.checkpoint
-file_of_done p settings fields resumed done (read, enough, count_is, kept_is, totals_is) = file_with p.checkpoint p.stop_after _ done.kept kept_is
+pub file_of_done : (p : Plan) (settings : Rules) (job : JobInputs) (done : Done) → HasDone p settings job done → requested_checkpoint p.checkpoint done.kept ≡ p.checkpoint
+file_of_done p settings job done (read, enough, count_is, kept_is, totals_is) = file_with p.checkpoint p.stop_after _ done.kept kept_is
 
 -- ---- what is found
 
-pub found_of_done : (p : Plan) (settings : Rules) (fields : Option (List Field)) (resumed : Option JobState) (done : Done) (f : Found)
-    → HasDone p settings fields resumed done → FindsDone done f → Finds p f
-found_of_done p settings fields resumed done (found.Packets records totals) (read, enough, count_is, kept_is, totals_is) is =
-    (settings, fields, resumed, read, enough, is ∙ totals_is)
-found_of_done p settings fields resumed done _ h is = absurd is
+-- what a job gives of a packet is what the plan asks for, with some definition or none
+texts_asked : (p : Plan) (to : Destination) → IsDestination p to → (fields : Option (List Field)) × (texts_of to ≡ texts_for p.action p.binary fields p.apid)
+texts_asked p (Output Octets) is = (None, rw is refl)
+texts_asked p (Output Line) (is, flag) = (None, rw (is, flag) refl)
+texts_asked p (Output Binary) (is, flag) = (None, rw (is, flag) refl)
+texts_asked p (Output (Row definition application form)) (is, named, asked, flag) = (Some definition, rw (is, asked, flag) refl)
+texts_asked p (Folder dir) (is, named) = (None, rw is refl)
 
-pub found_of_shown : (a : Action) (rules : Rules) (left_old left_new out_old out_new : Option (List ℕ)) (f : Found)
-    → HasShown a rules left_old left_new out_old out_new f → IsListFound a f
-found_of_shown act.Summary rules left_old left_new out_old out_new (found.Summary summed) h = (rules, h.lines.read, h.good_is, h.losses_is)
-found_of_shown act.Summary rules left_old left_new out_old out_new _ h = absurd h
-found_of_shown _ rules left_old left_new out_old out_new (found.Frames listed) h = (rules.layout, h.lines.read, h.good_is)
-found_of_shown _ rules left_old left_new out_old out_new _ h = absurd h
+pub found_of_done : (p : Plan) (settings : Rules) (job : JobInputs) (done : Done) (f : Found)
+    → IsJob p settings job → HasDone p settings job done → FindsDone done f → Finds p f
+found_of_done p settings job done (found.Packets records totals) (to, resumed, read_back) (read, enough, count_is, kept_is, totals_is) is =
+    let asked = texts_asked p job.destination to in (
+      settings,
+      asked.0,
+      job.resumed,
+      read,
+      enough,
+      is ∙ totals_is ∙ ap (λ (text : Texts ℕ). totals_over text (ending_of p) (work_from settings job.resumed) read) asked.1,
+    )
+found_of_done p settings job done _ asked h is = absurd is
 
--- a list or a summary finds what is found of the plan, if its action is none of a job
-list_finds : (p : Plan) (a : Action) (f : Found) → p.action ≡ a → is_job a ≡ false → IsListFound a f → Finds p f
-list_finds p act.Summary (found.Summary summed) is job h = (is, h)
-list_finds p act.Summary _ is job h = absurd h
-list_finds p act.Frames (found.Frames listed) is job h = (is, h)
-list_finds p act.Frames _ is job h = absurd h
-list_finds p _ f is job h = cc
+pub found_of_shown : (overview : Overview) (rules : Rules) (left_old left_new out_old out_new : Option (List ℕ)) (f : Found)
+    → HasShown overview rules left_old left_new out_old out_new f → IsListFound overview f
+found_of_shown Summary rules left_old left_new out_old out_new (found.Summary summed) h = (rules, h.lines.read, h.good_is, h.losses_is)
+found_of_shown Summary rules left_old left_new out_old out_new _ h = absurd h
+found_of_shown Frames rules left_old left_new out_old out_new (found.Frames listed) h = (rules.layout, h.lines.read, h.good_is)
+found_of_shown Frames rules left_old left_new out_old out_new _ h = absurd h
 
-pub list_found : (p : Plan) (f : Found) → is_job p.action ≡ false → IsListFound p.action f → Finds p f
-list_found p f job h = list_finds p p.action f refl job h
+-- a list or a summary finds what is found of the plan that asks for it
+pub list_found : (p : Plan) (overview : Overview) (f : Found) → IsOverview p overview → IsListFound overview f → Finds p f
+list_found p Summary (found.Summary summed) is h = (is, h)
+list_found p Summary _ is h = absurd h
+list_found p Frames (found.Frames listed) is h = (is, h)
+list_found p Frames _ is h = absurd h

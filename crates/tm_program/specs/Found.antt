@@ -1,17 +1,19 @@
 -- What a run that is done has found of its recording, whatever its source tells.
-use Rattle.std.specs.Prelude.{◌≡◌, ℕ, List, length, Option, None, Some}
+use Rattle.std.specs.Prelude.{◌≡◌, ℕ, Bool, if◌then◌else◌, List, length, Option, None, Some}
 use Rattle.std.specs.List.{count_by}
 use Rattle.tm_frame.specs.declared.layout.LayoutParts.{LayoutParts}
 use Rattle.tm_frame.specs.Layout.{record_length_of}
 use Rattle.tm_fields.specs.declared.field.Field.{Field}
+use Rattle.tm_fields.specs.declared.rows.RowForm.{RowForm}
+use Rattle.tm_fields.specs.declared.rows.RowForm.TheVariants.{Text, Binary}
 use Rattle.tm_settings.specs.Settings.{Rules}
 use Rattle.tm_checkpoint.specs.Works.{JobState, new_job, Work}
-use Rattle.tm_output.specs.declared.command.Command.TheVariants.{Extract, Packets as Lines}
+use Rattle.tm_output.specs.declared.command.Command.TheVariants.{BinaryPackets, Extract, Packets as Lines}
 use Rattle.tm_output.specs.declared.command.Ending.{Ending}
 use Rattle.tm_output.specs.declared.command.Ending.TheVariants.{Close, Keep, StopAfter}
-use Rattle.tm_output.specs.declared.listing.Listed.{Listed}
+use Rattle.tm_tool.specs.declared.listing.Listed.{Listed}
 use Rattle.tm_output.specs.declared.totals.Totals.{Totals}
-use Rattle.tm_output.specs.Listing.{is_good_record}
+use Rattle.tm_tool.specs.Listing.{is_good_record}
 use Rattle.tm_output.specs.Pieces.{Texts, rows_text, text_of}
 use Rattle.tm_output.specs.Records.{records, rest_of}
 use Rattle.tm_summary.specs.Losses.{has_good_frame, tells_loss}
@@ -45,11 +47,16 @@ work_from settings (Some job) = job.work
 
 -- ---- what it gives
 
--- the texts of a packet, by the action, the definition of fields and the application: octets are given where there are no lines and no rows
-abbrev pub texts_for : Action → Option (List Field) → Option ℕ → Texts ℕ
-texts_for Fields (Some fields) (Some application) = rows_text fields application
-texts_for Packets fields application = text_of Lines
-texts_for _ fields application = text_of Extract
+-- the form of rows, by the flag `--binary`
+abbrev pub row_form : Bool → RowForm
+row_form binary = if binary then Binary else Text
+
+-- the texts of a packet, by the action, the flag `--binary`, the definition of fields and the application: octets are given where there are
+-- no lines and no rows
+abbrev pub texts_for : Action → Bool → Option (List Field) → Option ℕ → Texts ℕ
+texts_for Fields binary (Some fields) (Some application) = rows_text (row_form binary) fields application
+texts_for Packets binary fields application = if binary then text_of BinaryPackets else text_of Lines
+texts_for _ binary fields application = text_of Extract
 
 -- what a run gave and lost, from this work, where it read these octets
 abbrev pub totals_over : Texts ℕ → Ending → Work → List ℕ → Totals
@@ -60,7 +67,7 @@ totals_over text ending w read =
 abbrev pub HasTotals : Plan → Totals → Type 0
 HasTotals p totals = (settings : Rules) × (fields : Option (List Field)) × (resumed : Option JobState) × (read : List ℕ)
     × IsEnough (ending_of p) (work_from settings resumed) None read
-    × (totals ≡ totals_over (texts_for p.action fields p.apid) (ending_of p) (work_from settings resumed) read)
+    × (totals ≡ totals_over (texts_for p.action p.binary fields p.apid) (ending_of p) (work_from settings resumed) read)
 
 -- ---- what it found
 

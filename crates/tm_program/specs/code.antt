@@ -1,3 +1,4 @@
 pub mod Blames
 pub mod Endings
 pub mod Faults
+pub mod Tasks

@@ -1,63 +1,42 @@
 //! Packets to a file for each application: the folder's files, and what splitting ends with.
 
-ghost use Rattle.std.specs.Prelude.{◌≡◌, ◌≢◌, ◌⊎◌, [], None, Ok, Some, IfErr, IfOk, MatchOption, OnOk, is_some, option_map};
-ghost use Rattle.tm_arguments.specs.declared.request.Action.TheVariants.{Split};
-ghost use Rattle.tm_files.specs.code.Files.{HasFault, IsFileFault, IsRunFault};
+ghost use Rattle.std.specs.Prelude.{◌≡◌, ◌≢◌, ◌⊎◌, [], None, Ok, Some, IfErr, IfOk, OnOk, is_some, option_map};
+ghost use Rattle.tm_files.specs.code.Files.{IsFileFault, IsRunFault};
 ghost use Rattle.tm_program.specs.code.Blames.{IsBlamedBeside, IsPutFault, IsSplitEnd, held_fault_of};
-ghost use Rattle.tm_program.specs.code.Endings.{HasDone};
+ghost use Rattle.tm_program.specs.code.Endings.{IsDone};
 ghost use Rattle.tm_program.specs.code.Faults.{IsFolderFault};
+ghost use Rattle.tm_program.specs.code.Tasks.{folder_texts};
 ghost use Rattle.tm_split_files.specs.Names.{file_in};
 ghost use Rattle.tm_split_files.specs.Shelves.{HoldsNone};
 
-use crate::checkpoint_file::{choose_ending, make_job};
-use crate::inputs::Inputs;
 use std::alloc::Global;
 use std::rt::Files;
 use tm_arguments::Plan;
 use tm_faults::ToolFault;
 use tm_file_identity::FileIdentities;
-use tm_files::{Destination, choose_destination, file_fault};
+use tm_files::file_fault;
 use tm_split_files::{FileShelf, ShelfFault, name_in};
-use tm_tool::{BufferedSource, Done, Drain, Octets, RunFault, split};
+use tm_tool::{BufferedSource, Done, Drain, Ending, Job, Octets, RunFault, split};
 
-// The files for the applications in this folder, none of them one of the run's other files. An empty name is none: it would stand for the root.
-fn make_shelf_in<'a, R: Files + AllocGlobal>(
+// The files for the applications in this folder, appended to if the plan resumes a job. None is one of the run's other
+// files. An empty name is none: it would stand for the root.
+pub(crate) fn make_shelf<'a, R: Files + AllocGlobal>(
     rt: &'a R,
+    plan: &Plan,
     dir: &'a Octets,
-    goes_on: bool,
     identities: &'a FileIdentities,
 ) -> Result<FileShelf<'a, R>, ToolFault>
-    ensures folder { IfOk result (λ s. (s.folder ≡ dir.now) × (s.goes_on ≡ goes_on) × (s.identities ≡ identities.now)
-        × (dir.now ≢ [])) }
+    ensures folder { IfOk result (λ s. (s.folder ≡ dir.now) × (s.goes_on ≡ is_some plan.now.resume)
+        × (s.identities ≡ identities.now) × (dir.now ≢ [])) }
     ensures refused { IfErr result (IsFileFault dir.now) }
 {
     let path = match std::str::from_utf8(dir.as_slice()) {
         Ok(path) if !path.is_empty() => path,
         _ => return Err(file_fault(rt.alloc(), dir)),
     };
-    match FileShelf::new(rt, path, goes_on, identities) {
+    match FileShelf::new(rt, path, plan.resume.is_some(), identities) {
         Ok(shelf) => Ok(shelf),
         Err(_) => Err(ToolFault::Run(RunFault::NoMemory)),
-    }
-}
-
-// The files for the applications, where the plan's packets go to a folder.
-#[tactic(auto, using(tm_files::proofs::FaultLemmas::fault_there))]
-pub(crate) fn make_shelf<'a, R: Files + AllocGlobal>(
-    rt: &'a R,
-    plan: &'a Plan,
-    identities: &'a FileIdentities,
-) -> Result<Option<FileShelf<'a, R>>, ToolFault>
-    ensures found { IfOk result (λ found. MatchOption found (plan.now.action ≡ Split → plan.now.dir ≡ None)
-        (λ s. (plan.now.action ≡ Split) × (plan.now.dir ≡ Some s.folder) × (s.goes_on ≡ is_some plan.now.resume)
-        × (s.identities ≡ identities.now))) }
-    ensures refused { IfErr result (HasFault plan.now.dir) }
-{
-    match choose_destination(plan) {
-        Destination::Folder { dir, goes_on } => {
-            Ok(Some(make_shelf_in(rt, dir, goes_on, identities)?))
-        }
-        Destination::Output => Ok(None),
     }
 }
 
@@ -114,27 +93,25 @@ fn split_end<R: Files + AllocGlobal>(
     }
 }
 
-// Goes on with the job of the checkpoint, or else with a new one, and gives its packets to a file for each application.
-#[tactic(auto, using(tm_files::proofs::FaultLemmas::no_memory_run, crate::proofs::BlameLemmas::split_blames, crate::proofs::BlameLemmas::no_memory_blames))]
+// Goes on with a job up to its ending, and gives its packets to a file for each application.
+#[tactic(auto, using(crate::proofs::BlameLemmas::split_blames))]
 pub(crate) fn split_packets<R: Files + AllocGlobal, S: BufferedSource, V: Drain>(
     rt: &R,
-    plan: &Plan,
-    inputs: &mut Inputs,
+    job: Job,
+    ending: Ending,
     shelf: &mut FileShelf<'_, R>,
     source: &mut S,
     report: &mut V,
 ) -> Result<Done, ToolFault>
-    requires { plan.now.action ≡ Split }
-    ensures done { IfOk result (HasDone plan.now inputs.old.settings inputs.old.definition inputs.old.resumed) }
+    ensures done { IfOk result (IsDone folder_texts ending job.work) }
     ensures written { OnOk result (HoldsNone shelf.new.held) }
     ensures blamed { IfErr result (IsBlamedBeside (S.failures source.old) (S.failures source.new) (V.failures report.old)
         (V.failures report.new)) }
     ensures refused { IfErr result (λ fault. IsRunFault fault ⊎ IsFolderFault shelf.old.folder fault) }
 {
-    let job = make_job(rt, inputs.resumed.take(), &inputs.settings)?;
     let alloc = rt.alloc();
     let dir = shelf.dir();
-    let done = split(alloc, job, source, shelf, report, choose_ending(plan));
+    let done = split(alloc, job, source, shelf, report, ending);
     let written = shelf.write_held();
     split_end(alloc, dir, shelf, done, written)
 }

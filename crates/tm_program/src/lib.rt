@@ -6,6 +6,7 @@ mod folder;
 mod inputs;
 mod outcome;
 mod steps;
+mod task;
 
 pub use outcome::{Found, Outcome};
 pub use steps::run;

@@ -1,33 +1,34 @@
 //! The order of steps: the arguments, the checks, what is read and opened, the run, and the checkpoint that it leaves.
 
-ghost use Rattle.std.specs.Prelude.{◌≡◌, ◌⊎◌, false, IfErr, IfOk, IfSome, IsSome, MatchOption, OnOk, map, option_map, string_bytes};
-ghost use Rattle.tm_files.specs.code.Decisions.{is_job};
+ghost use Rattle.std.specs.Prelude.{◌≡◌, ◌⊎◌, IfErr, IfOk, IfSome, MatchOption, OnOk, map, option_map, string_bytes};
+ghost use Rattle.tm_arguments.specs.CommandLine.{HasRequired};
 ghost use Rattle.tm_files.specs.code.Files.{IsRunFault};
 ghost use Rattle.tm_files.specs.code.Replacements.{replaced_name};
 ghost use Rattle.tm_files.specs.Names.{AreClear};
-ghost use Rattle.tm_program.specs.code.Blames.{IsBlamed, IsBlamedBeside};
-ghost use Rattle.tm_program.specs.code.Endings.{HasCheckpoint, HasDone, HasShown, IsListFound};
-ghost use Rattle.tm_program.specs.Found.{Finds, HasFound, texts_for};
 ghost use Rattle.tm_output.specs.Pieces.{text_of};
-ghost use Rattle.tm_program.specs.Program.{IsAsked, MayCome, MayEnd};
+ghost use Rattle.tm_program.specs.code.Blames.{IsBlamed, IsBlamedBeside};
+ghost use Rattle.tm_program.specs.code.Endings.{HasCheckpoint, HasDone, HasShown, IsDone, IsListFound, IsTaskDone};
 ghost use Rattle.tm_program.specs.code.Faults.{HasFolderFault, IsOfOutputs};
+ghost use Rattle.tm_program.specs.code.Tasks.{IsJob, IsTask};
+ghost use Rattle.tm_program.specs.Found.{Finds, HasFound};
+ghost use Rattle.tm_program.specs.Program.{IsAsked, MayCome, MayEnd};
 
 use crate::checkpoint_file::{begin_checkpoint, choose_ending, end_checkpoint, make_job};
 use crate::folder::{make_shelf, split_packets};
 use crate::inputs::{Inputs, prepare_inputs};
 use crate::outcome::{Finished, Found, Outcome};
+use crate::task::{Destination, JobInputs, Overview, Task};
 use std::alloc::Global;
 use std::io::{self, BufWriter, Write};
 use std::rt::Files;
-use tm_arguments::{Action, Plan, plan};
+use tm_arguments::{Plan, plan};
 use tm_faults::ToolFault;
-use tm_fields::Definition;
 use tm_files::{
     Checked, Recording, Report, check_file_names, check_folder, choose_recording, identify_files,
-    is_job, make_drain, open_recording, open_report, source_of_input, writes_errors,
+    make_drain, open_recording, open_report, source_of_input, writes_errors,
 };
 use tm_tool::{
-    BufferedSource, Command, Done, Drain, Job, Settings, Writing, list_recording, sum_up,
+    BufferedSource, Command, Done, Drain, Ending, Job, Settings, Writing, list_recording, sum_up,
 };
 
 // The plan of the arguments.
@@ -44,26 +45,26 @@ fn read_arguments(alloc: Global, arguments: Vec<String>) -> Result<Plan, ToolFau
 // Lists the frames of a recording, or sums it up, and answers what was found.
 fn list_to<S: BufferedSource, W: Drain>(
     alloc: Global,
-    action: Action,
+    overview: Overview,
     settings: &Settings,
     source: &mut S,
     out: &mut W,
 ) -> Result<Found, ToolFault>
-    ensures listed { IfOk result (HasShown action settings.now (S.left source.old) (S.left source.new) (W.written out.old)
+    ensures listed { IfOk result (HasShown overview settings.now (S.left source.old) (S.left source.new) (W.written out.old)
         (W.written out.new)) }
     ensures blamed { IfErr result (IsBlamed (S.failures source.old) (S.failures source.new) (W.failures out.old)
         (W.failures out.new)) }
     ensures refused { IfErr result IsRunFault }
 {
-    if let Action::Summary = action {
-        return match sum_up(alloc, settings, source, out) {
+    match overview {
+        Overview::Summary => match sum_up(alloc, settings, source, out) {
             Ok(summed) => Ok(Found::Summary(summed)),
             Err(fault) => Err(ToolFault::Run(fault)),
-        };
-    }
-    match list_recording(alloc, settings, source, out) {
-        Ok(listed) => Ok(Found::Frames(listed)),
-        Err(fault) => Err(ToolFault::Run(fault)),
+        },
+        Overview::Frames => match list_recording(alloc, settings, source, out) {
+            Ok(listed) => Ok(Found::Frames(listed)),
+            Err(fault) => Err(ToolFault::Run(fault)),
+        },
     }
 }
 
@@ -71,77 +72,75 @@ fn list_to<S: BufferedSource, W: Drain>(
 #[tactic(auto, using(tm_files::proofs::FaultLemmas::no_memory_run, crate::proofs::EndingLemmas::found_of_shown))]
 fn list<R: Print + AllocGlobal, S: BufferedSource>(
     rt: &R,
-    action: Action,
+    overview: Overview,
     settings: &Settings,
     source: &mut S,
 ) -> Result<Found, ToolFault>
-    ensures found { IfOk result (IsListFound action) }
+    ensures found { IfOk result (IsListFound overview) }
     ensures refused { IfErr result IsRunFault }
 {
     let alloc = rt.alloc();
     let mut out = make_drain(alloc, io::writer(rt))?;
-    match list_to(alloc, action, settings, source, &mut out) {
+    match list_to(alloc, overview, settings, source, &mut out) {
         Ok(found) => Ok(found),
         Err(fault) => Err(fault),
     }
 }
 
-// What the plan wants of the packets on standard output.
-fn choose_command<'a>(plan: &Plan, definition: Option<&'a Definition>) -> Command<'a>
-    ensures { text_of result ≡ texts_for plan.now.action (option_map (λ d. d.now) definition.entry) plan.now.apid }
-{
-    match (plan.action, definition, plan.apid) {
-        (Action::Packets, _, _) => Command::Packets,
-        (Action::Fields, Some(definition), Some(apid)) => Command::Fields(definition, apid),
-        _ => Command::Extract,
-    }
-}
-
-// Goes on with the job of the checkpoint, or else with a new one, and gives its packets on standard output.
+// Goes on with a job up to its ending, and gives its packets on standard output.
 #[tactic(auto, using(tm_files::proofs::FaultLemmas::no_memory_run, crate::proofs::BlameLemmas::run_blames, crate::proofs::BlameLemmas::no_memory_blames, crate::proofs::EndingLemmas::ran_done))]
 fn give_packets<R: Print + AllocGlobal, S: BufferedSource, V: Drain>(
     rt: &R,
-    plan: &Plan,
-    inputs: &mut Inputs,
+    job: Job,
+    command: Command<'_>,
+    ending: Ending,
     source: &mut S,
     report: &mut V,
 ) -> Result<Done, ToolFault>
-    ensures done { IfOk result (HasDone plan.now inputs.old.settings inputs.old.definition inputs.old.resumed) }
+    ensures done { IfOk result (IsDone (text_of command.entry) ending job.work) }
     ensures blamed { IfErr result (IsBlamedBeside (S.failures source.old) (S.failures source.new) (V.failures report.old)
         (V.failures report.new)) }
     ensures refused { IfErr result IsRunFault }
 {
     let alloc = rt.alloc();
     let mut out = make_drain(alloc, io::writer(rt))?;
-    let job = make_job(rt, inputs.resumed.take(), &inputs.settings)?;
-    let command = choose_command(plan, inputs.definition.as_ref());
-    let ending = choose_ending(plan);
     match tm_tool::run(alloc, job, command, source, &mut out, report, ending) {
         Ok(done) => Ok(done),
         Err(fault) => Err(ToolFault::Run(fault)),
     }
 }
 
-// Does the job to where the plan wants the packets. Names are looked up anew, now that the report is made: before, it may have been none.
+// Does the job to where the packets go. Names are looked up anew, now that the report is made: before, it may have been none.
 #[tactic(auto, using(tm_files::proofs::FaultLemmas::no_memory_run, crate::proofs::ProgramLemmas::folder_there, crate::proofs::ProgramLemmas::split_there))]
 fn run_to_destination<R: Files + Print + AllocGlobal, S: BufferedSource, V: Drain>(
     rt: &R,
     plan: &Plan,
-    inputs: &mut Inputs,
+    settings: &Settings,
+    job: JobInputs<'_>,
     source: &mut S,
     report: &mut V,
 ) -> Result<Done, ToolFault>
-    ensures done { IfOk result (HasDone plan.now inputs.old.settings inputs.old.definition inputs.old.resumed) }
+    requires { IsJob plan.now settings.now job }
+    ensures done { IfOk result (HasDone plan.now settings.now job.entry) }
     ensures refused { IfErr result (λ fault. IsRunFault fault ⊎ HasFolderFault plan.now.dir fault) }
 {
     let identities = identify_files(rt, plan)?;
-    let done = match make_shelf(rt, plan, &identities) {
-        Ok(Some(mut shelf)) => split_packets(rt, plan, inputs, &mut shelf, source, report),
-        Ok(None) => give_packets(rt, plan, inputs, source, report),
-        Err(fault) => Err(fault),
-    };
-    drop(identities);
-    done
+    let ending = choose_ending(plan);
+    let JobInputs {
+        destination,
+        resumed,
+    } = job;
+    match &destination {
+        Destination::Output(form) => {
+            let job = make_job(rt, resumed, settings)?;
+            give_packets(rt, job, form.command(), ending, source, report)
+        }
+        Destination::Folder(dir) => {
+            let mut shelf = make_shelf(rt, plan, dir, &identities)?;
+            let job = make_job(rt, resumed, settings)?;
+            split_packets(rt, job, ending, &mut shelf, source, report)
+        }
+    }
 }
 
 // The number of records that are done before the run.
@@ -166,48 +165,47 @@ fn make_report<R: Files + AllocGlobal, E: Write + Drop>(
     make_drain(rt.alloc(), report)
 }
 
-// Does what the plan wants of the job over the recording, once the names of its files were checked, and answers what is done. The file of the
-// plan's checkpoint is made ready before the run, and replaced behind it in any case, also where no record is done.
+// Does the job over the recording, and answers what is done. The file of the plan's checkpoint is made ready before the
+// run, and replaced after it in any case, also where no record is done.
 #[tactic(auto, using(crate::proofs::ProgramLemmas::run_ends, crate::proofs::EndingLemmas::file_of_done, crate::proofs::EndingLemmas::found_of_done))]
-fn run_job<'p, R: Files + Print + AllocGlobal, S: BufferedSource, E: Write + Drop>(
+fn run_job<'p, R: Files + Print + AllocGlobal, S: BufferedSource, V: Drain>(
     rt: &R,
     plan: &'p Plan,
-    inputs: &mut Inputs,
+    settings: &Settings,
+    job: JobInputs<'_>,
     source: &mut S,
-    errors: &mut E,
-    checked: Checked,
+    report: &mut V,
 ) -> Result<Finished<'p>, ToolFault>
-    ensures done { IfOk result (λ finished. MatchOption finished.done ⊥
-        (HasDone plan.now inputs.old.settings inputs.old.definition inputs.old.resumed)) }
+    requires { IsJob plan.now settings.now job }
+    ensures done { IfOk result (λ finished. MatchOption finished.done ⊥ (HasDone plan.now settings.now job.entry)) }
     ensures checkpoint { IfOk result (λ finished. option_map replaced_name finished.replaced ≡ plan.now.checkpoint) }
     ensures octets { IfOk result (λ finished. IfSome finished.done (λ done. IfSome finished.replaced (HasCheckpoint done))) }
     ensures found { IfOk result (λ finished. Finds plan.now finished.found) }
     ensures refused { IfErr result (IsOfOutputs plan.now) }
 {
-    check_folder(rt, plan)?;
-    let before = records_before(&inputs.resumed);
-    let mut report = make_report(rt, plan, checked, errors)?;
+    let before = records_before(&job.resumed);
     match begin_checkpoint(rt, plan) {
         Ok(replacement) => {
-            let done = run_to_destination(rt, plan, inputs, source, &mut report);
+            let done = run_to_destination(rt, plan, settings, job, source, report);
             end_checkpoint(rt, replacement, done, before)
         }
         Err(fault) => Err(fault),
     }
 }
 
-// Checks the names of the plan's files, does what the plan asks for with the recording, and answers what its job has done, if it has one.
+// Checks the names of the plan's files, does its task with the recording, and answers what its job has done, if it has one.
 #[tactic(auto, using(crate::proofs::ProgramLemmas::names_come, crate::proofs::EndingLemmas::list_found))]
 fn run_on_recording<'p, R: Files + Print + AllocGlobal, S: BufferedSource, E: Write + Drop>(
     rt: &R,
     plan: &'p Plan,
-    inputs: &mut Inputs,
+    settings: &Settings,
+    task: Task<'_>,
     source: &mut S,
     errors: &mut E,
 ) -> Result<Finished<'p>, ToolFault>
+    requires { IsTask plan.now settings.now task }
     ensures ok { OnOk result (AreClear plan.now) }
-    ensures done { IfOk result (λ finished. MatchOption finished.done (is_job plan.now.action ≡ false)
-        (HasDone plan.now inputs.old.settings inputs.old.definition inputs.old.resumed)) }
+    ensures done { IfOk result (λ finished. IsTaskDone plan.now settings.now task.entry finished.done) }
     ensures checkpoint { IfOk result (λ finished. IfSome finished.done
         (λ done. option_map replaced_name finished.replaced ≡ plan.now.checkpoint)) }
     ensures octets { IfOk result (λ finished. IfSome finished.done (λ done. IfSome finished.replaced (HasCheckpoint done))) }
@@ -215,16 +213,17 @@ fn run_on_recording<'p, R: Files + Print + AllocGlobal, S: BufferedSource, E: Wr
     ensures refused { IfErr result (IsOfOutputs plan.now) }
 {
     let checked = check_file_names(rt, plan)?;
-    if is_job(plan.action) {
-        return run_job(rt, plan, inputs, source, errors, checked);
-    }
-    match list(rt, plan.action, &inputs.settings, source) {
-        Ok(found) => Ok(Finished {
+    match task {
+        Task::Overview(overview) => Ok(Finished {
             done: None,
             replaced: None,
-            found,
+            found: list(rt, overview, settings, source)?,
         }),
-        Err(fault) => Err(fault),
+        Task::Job(job) => {
+            check_folder(rt, plan)?;
+            let mut report = make_report(rt, plan, checked, errors)?;
+            run_job(rt, plan, settings, job, source, &mut report)
+        }
     }
 }
 
@@ -235,23 +234,23 @@ fn run_plan<R: Files + Input + Print + AllocGlobal, E: Write + Drop>(
     plan: &Plan,
     errors: &mut E,
 ) -> Result<Outcome, ToolFault>
-    requires { IsSome plan.now.settings }
+    requires { HasRequired plan.now }
     ensures ok { IfOk result (λ outcome. AreClear plan.now × HasFound plan.now outcome) }
     ensures refused { IfErr result (MayCome plan.now) }
 {
-    let mut inputs = prepare_inputs(rt, plan, errors)?;
+    let Inputs { settings, task } = prepare_inputs(rt, plan, errors)?;
     let finished = match choose_recording(plan) {
         Recording::File(name) => match open_recording(rt, name) {
-            Ok(mut source) => run_on_recording(rt, plan, &mut inputs, &mut source, errors),
+            Ok(mut source) => run_on_recording(rt, plan, &settings, task, &mut source, errors),
             Err(fault) => Err(fault),
         },
         Recording::Input => match source_of_input(rt) {
-            Ok(mut source) => run_on_recording(rt, plan, &mut inputs, &mut source, errors),
+            Ok(mut source) => run_on_recording(rt, plan, &settings, task, &mut source, errors),
             Err(fault) => Err(fault),
         },
     };
-    let has_all_channels = inputs.settings.channels().mask() == u8::MAX;
-    drop(inputs);
+    let has_all_channels = settings.channels().mask() == u8::MAX;
+    drop(settings);
     match finished {
         Ok(finished) => Ok(Outcome {
             found: finished.into_found(),

@@ -16,6 +16,7 @@ fn run_with(rt: &HostRuntime, arguments: &[&str]) -> Result<Result<Outcome, Tool
 
 #[test]
 fn files_that_are_not_read(rt: HostRuntime) -> Result<(), Fail> {
+    // guards: faults-name-the-file-as-it-was-given
     let table = [
         ("no such file", "tmx: no such file: failed\n"),
         ("/", "tmx: /: failed\n"),
@@ -48,6 +49,7 @@ fn make(rt: &HostRuntime, name: &str, octets: &[u8]) -> io::Result<()> {
 
 #[test]
 fn split_without_folder(rt: HostRuntime) -> Result<(), Fail> {
+    // guards: each-fault-traces-to-a-word-or-a-file
     let made = make(&rt, "split.toml", SETTINGS.as_bytes()).is_ok()
         && make(&rt, "split.frames", RECORDING).is_ok();
     let arguments = [

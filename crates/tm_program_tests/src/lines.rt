@@ -22,6 +22,7 @@ fn is_told(alloc: Global, fault: &ToolFault, line: &str, code: u8) -> bool {
 
 #[test]
 fn lines_and_statuses(rt: HostRuntime) {
+    // guards: fault-lines-and-exit-statuses
     let table = [
         (
             ToolFault::Usage(UsageFault::StopAfter),
@@ -96,6 +97,7 @@ fn fault_with(text: Text, octets: Octets) -> ToolFault {
 
 #[test]
 fn lines_with_octets(rt: HostRuntime) -> Result<(), Fail> {
+    // guards: fault-lines-and-exit-statuses
     let alloc = rt.alloc();
     let table = [
         (Text::Help, "help\n", "help\n", 0),
@@ -123,6 +125,7 @@ fn lines_with_octets(rt: HostRuntime) -> Result<(), Fail> {
 
 #[test]
 fn lines_of_definitions(rt: HostRuntime) -> Result<(), Fail> {
+    // guards: fault-lines-and-exit-statuses
     let table = [
         (DefinitionFault::Csv, "csv"),
         (
@@ -150,6 +153,7 @@ fn lines_of_definitions(rt: HostRuntime) -> Result<(), Fail> {
 
 #[test]
 fn lines_of_checkpoints(rt: HostRuntime) -> Result<(), Fail> {
+    // guards: fault-lines-and-exit-statuses
     let table = [
         (CheckpointFault::Short, "short"),
         (CheckpointFault::Magic, "magic"),

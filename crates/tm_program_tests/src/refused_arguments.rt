@@ -42,6 +42,7 @@ fn plan_once(alloc: Global, kept: &mut Option<Vec<String>>) -> Answer {
 
 #[test]
 fn refused_plan(rt: HostRuntime) {
+    // guards: when-plan-refuses-words
     let alloc = rt.alloc();
     let mut kept = try_twice(|| owned_strings(alloc, &WORDS));
     let mut turns = Turns::new(&rt).expect(&rt, NOTHING_HELD);
@@ -70,6 +71,7 @@ fn refuse_once(alloc: Global, kept: &mut Option<Vec<String>>) -> Answer {
 
 #[test]
 fn refused_usage(rt: HostRuntime) {
+    // guards: when-plan-refuses-words
     let alloc = rt.alloc();
     let mut kept = try_twice(|| owned_strings(alloc, &WRONG_WORDS));
     let mut turns = Turns::new(&rt).expect(&rt, NOTHING_HELD);

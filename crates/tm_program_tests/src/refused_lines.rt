@@ -33,6 +33,7 @@ fn lines_in_turn<R: Files + AllocGlobal + Abort>(rt: &R, fault: &ToolFault, want
 
 #[test]
 fn refused_lines(rt: HostRuntime) -> Result<(), Fail> {
+    // guards: fault-lines-and-exit-statuses
     let alloc = rt.alloc();
     let name = try_twice(|| foreign(alloc)).ok_or("a name")?;
     let table = [

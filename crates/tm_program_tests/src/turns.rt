@@ -5,6 +5,7 @@ use tm_memory::{Answer, NOTHING_HELD, Turns, try_twice};
 // How often a call is made that gives these octets, until all is right.
 #[test]
 fn one_request(rt: HostRuntime) {
+    // guards: how-tests-refuse-memory
     let alloc = rt.alloc();
     let mut turns = Turns::new(&rt).expect(&rt, NOTHING_HELD);
     for _ in 0..turns.most() {
@@ -21,6 +22,7 @@ fn one_request(rt: HostRuntime) {
 
 #[test]
 fn calls_that_are_never_right(rt: HostRuntime) {
+    // guards: how-tests-refuse-memory
     for answer in [Answer::Refused, Answer::Wrong, Answer::NotMade] {
         let mut turns = Turns::new(&rt).expect(&rt, NOTHING_HELD);
         for _ in 0..turns.most() {

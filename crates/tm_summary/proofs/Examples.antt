@@ -28,6 +28,7 @@ abbrev loss : ℕ → ℕ → Loss
 loss parts octets = record { parts = parts; octets = octets }
 
 -- A frame that is recorded twice: both packets are given, and 255 frames are missing.
+-- guards: each-number-is-a-count-over-whole-lists
 frame_twice : channel_counts (frame (kind.Packets 0) 18 ∷ frame (kind.Packets 0) 18 ∷ [])
     (items_on 0
     (Packet 0 0 0 0 (replicate 18 85) ∷ MasterGap 1 1 0 255 ∷ Gap 1 0 1 0 255 ∷ Packet 1 0 1 0 (replicate 18 85) ∷ []))
@@ -48,6 +49,7 @@ unfolding in_all for_numbers
 frame_twice = refl
 
 -- A VCA frame ends a packet, what follows it begins with no start, and the end cuts another packet off. What is of channel 1 is left out.
+-- guards: each-number-is-a-count-over-whole-lists
 vca_frame : channel_counts (frame (kind.Packets 0) 18 ∷ frame kind.Vca 18 ∷ frame kind.Idle 18 ∷ frame (kind.Packets 6) 21 ∷ [])
     (items_on 0
     (Packet 0 0 0 0 (replicate 10 85) ∷ Vca 1 0 ∷ Dropped 1 0 0 10 8 why.Vca ∷ Gap 2 1 4 6 2 ∷ Dropped 3 1 3 0 7 why.NoStart
@@ -69,6 +71,7 @@ unfolding in_all for_numbers
 vca_frame = refl
 
 -- A group that a gap breaks, a stray, and a group that the end breaks.
+-- guards: each-number-is-a-count-over-whole-lists
 notes : application_of (Packet 0 0 0 0 (replicate 7 85) ∷ Packet 0 0 0 7 (replicate 7 85) ∷ Packet 5 0 5 0 (replicate 9 85) ∷ [])
     (note.Gap 1 2 1 ∷ note.Broken 16383 0 broken_by.Gap ∷ note.Stray 2 flag.Last ∷ note.Broken 3 3 broken_by.Close ∷ [])
     ≡ record {

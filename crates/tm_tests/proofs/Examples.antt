@@ -7,7 +7,7 @@ use Rattle.tm_frame.specs.declared.layout.LayoutParts.{LayoutParts}
 use Rattle.tm_frame.specs.declared.layout.Presence.TheVariants.{Flag}
 use Rattle.tm_frame.specs.Fault.{fault_of}
 use Rattle.tm_lines.specs.Lines.{bad_line, frame_line, short_line}
-use Rattle.tm_output.specs.Listing.{listing, record_line}
+use Rattle.tm_tool.specs.Listing.{listing, record_line}
 use Rattle.tm_output.specs.Records.{records, rest_of}
 
 base : LayoutParts

@@ -59,6 +59,7 @@ fn changes_are_found(alloc: Global, text: &str, settings: &str) -> Option<bool> 
 // The error control finds each change of one bit, in itself too.
 #[test]
 fn checkpoints_with_a_bit_changed(rt: HostRuntime) {
+    // guards: read_checkpoint-reads-versions-1-2-and-3
     for (text, settings, _) in CHECKPOINTS {
         let found = changes_are_found(rt.alloc(), text, settings);
         assert!(rt; found == Some(true), "{text}");
@@ -85,6 +86,7 @@ fn prefixes_are_refused(alloc: Global, text: &str, settings: &str, least: usize)
 // The last two octets of a part are nowhere the error control of those before.
 #[test]
 fn checkpoints_cut_off(rt: HostRuntime) {
+    // guards: read_checkpoint-reads-versions-1-2-and-3
     for (text, settings, least) in CHECKPOINTS {
         let refused = prefixes_are_refused(rt.alloc(), text, settings, least);
         assert!(rt; refused == Some(true), "{text}");
@@ -99,6 +101,7 @@ const FRAME: [u8; 9] = [0x02, 0xA0, 0x00, 0x00, 0x1F, 0xFE, 0x55, 0x25, 0xC9];
 // Error control is looked at before anything else, so nothing that such a frame says is its fault.
 #[test]
 fn frames_with_a_bit_changed(rt: HostRuntime) {
+    // guards: read-gives-the-good-frame-or-its-first-fault
     let settings = settings_of(rt.alloc(), CONTROLLED).expect(&rt, "the settings");
     let layout = settings.layout();
     for bit in 0..72 {
@@ -133,6 +136,8 @@ fn bad_lines(alloc: Global, records: u32) -> Result<String, AllocError> {
 
 #[test]
 fn list_of_frames_with_a_bit_changed(rt: HostRuntime) {
+    // guards: read-gives-the-good-frame-or-its-first-fault
+    // guards: each-item-is-given-once-at-the-record-that-completes-it
     let alloc = rt.alloc();
     let recording = changed_frames(alloc).expect(&rt, "frames");
     let wanted = bad_lines(alloc, 72).expect(&rt, "lines");

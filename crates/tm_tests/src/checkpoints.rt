@@ -51,12 +51,14 @@ fn is_written_again(alloc: Global, text: &str) -> Option<bool> {
 
 #[test]
 fn written_again(rt: HostRuntime) {
+    // guards: a-checkpoint-is-read-again-as-the-same-work
     assert!(rt; is_written_again(rt.alloc(), CHECKPOINT) == Some(true));
 }
 
 // Each version is read, and refused where packets are limited otherwise.
 #[test]
 fn three_versions(rt: HostRuntime) {
+    // guards: read_checkpoint-reads-versions-1-2-and-3
     let alloc = rt.alloc();
     for (text, len) in [(CHECKPOINT, 74), (VERSION_2, 72), (VERSION_1, 69)] {
         let octets = octets_of(alloc, text).expect(&rt, "octets");
@@ -76,6 +78,7 @@ fn new_checkpoint(alloc: Global) -> Option<Vec<u8>> {
 
 #[test]
 fn before_any_record(rt: HostRuntime) {
+    // guards: a-jobs-checkpoint-is-written-and-read
     let alloc = rt.alloc();
     let octets = new_checkpoint(alloc).expect(&rt, "a checkpoint");
     assert!(rt; octets.len() == 37);
@@ -111,6 +114,7 @@ fn refusal_with_longer_frames(alloc: Global) -> Option<CheckpointFault> {
 
 #[test]
 fn altered_checkpoint(rt: HostRuntime) {
+    // guards: read_checkpoint-reads-versions-1-2-and-3
     let alloc = rt.alloc();
     let table = [
         // It is cut off.

@@ -60,6 +60,7 @@ fn read(frame_length: u32, skip_before: u32, error_control: bool, max_packet: u3
 // A line is whole from the first digit of its number on, or from the end of its boolean. A text that is cut before that is no document.
 #[test]
 fn settings_with_error_control(rt: HostRuntime) {
+    // guards: settingsread-gives-the-settings-or-the-refusal
     let text = "spacecraft = 42\nframe_length = 9\nerror_control = true\n";
     let table = [
         (0, CutAnswer::Missing(Key::Spacecraft)),
@@ -79,6 +80,7 @@ fn settings_with_error_control(rt: HostRuntime) {
 
 #[test]
 fn settings_with_skipped_octets_and_a_limit(rt: HostRuntime) {
+    // guards: settingsread-gives-the-settings-or-the-refusal
     let text =
         "spacecraft = 42\nframe_length = 24\nerror_control = false\nskip_before = 4\nmax_packet = 12\n";
     let table = [
@@ -109,6 +111,7 @@ fn settings_with_skipped_octets_and_a_limit(rt: HostRuntime) {
 // are a length of its type.
 #[test]
 fn definition_of_fields(rt: HostRuntime) {
+    // guards: definitionread-gives-the-fields-or-the-refusal
     let table = [
         (3, Err(DefinitionFault::Column(Column::Name))),
         (14, Err(DefinitionFault::Column(Column::DataType))),

@@ -46,6 +46,8 @@ fn out_of(alloc: Global, row: &Row, by: By<'_>) -> Option<Vec<u8>> {
             Some(out)
         }
         By::Run(Command::Extract) | By::Split => octets_of(alloc, row.octets),
+        // The rows don't say it.
+        By::Run(Command::BinaryPackets | Command::BinaryFields(_, _)) => None,
     }
 }
 
@@ -159,33 +161,39 @@ fn each_call_failing(rt: &impl Abort, alloc: Global, by: By<'_>) {
 
 #[test]
 fn each_call_failing_by_frames(rt: HostRuntime) {
+    // guards: list_frames-lists-the-whole-recording
     each_call_failing(&rt, rt.alloc(), By::Frames);
 }
 
 #[test]
 fn each_call_failing_by_extract(rt: HostRuntime) {
+    // guards: output-writes-the-piece-of-each-item-it-takes
     each_call_failing(&rt, rt.alloc(), By::Run(Command::Extract));
 }
 
 #[test]
 fn each_call_failing_by_packets(rt: HostRuntime) {
+    // guards: what-a-run-reads-and-when-it-flushes
     each_call_failing(&rt, rt.alloc(), By::Run(Command::Packets));
 }
 
 #[test]
 fn each_call_failing_by_fields(rt: HostRuntime) {
+    // guards: what-a-run-reads-and-when-it-flushes
     let definition = Definition::read(rt.alloc(), DEFINITION).expect(&rt, "the definition");
     each_call_failing(&rt, rt.alloc(), By::Run(Command::Fields(&definition, 100)));
 }
 
 #[test]
 fn each_call_failing_by_split(rt: HostRuntime) {
+    // guards: what-a-run-reads-and-when-it-flushes
     each_call_failing(&rt, rt.alloc(), By::Split);
 }
 
 // The devices move one octet per call, so what is written is cut at each of its octets.
 #[test]
 fn each_octet_failing(rt: HostRuntime) {
+    // guards: the-contracts-that-devices-keep
     let row = &POINTER_DROP_AND_SEQUENCE_GAP;
     for by in [By::Run(Command::Extract), By::Run(Command::Packets)] {
         assert!(rt; row_fails(rt.alloc(), row, by, 1) == Some(true));
@@ -219,6 +227,9 @@ fn none_failing(rt: &impl Abort, alloc: Global, by: By<'_>) {
 // All rows by all commands.
 #[test]
 fn worked_rows(rt: HostRuntime) {
+    // guards: step-gives-exactly-the-items-of-its-record
+    // guards: exactly-the-whole-packets-are-given
+    // guards: each-item-is-given-once-at-the-record-that-completes-it
     let definition = Definition::read(rt.alloc(), DEFINITION).expect(&rt, "the definition");
     let commands = [
         By::Frames,
@@ -249,6 +260,7 @@ fn end_of_run(
 
 #[test]
 fn worked_failures(rt: HostRuntime) {
+    // guards: the-contracts-that-devices-keep
     let line =
         "packet record=0 channel=0 from=0 at=0 type=tm secondary=no apid=100 flags=unsegmented count=0 octets=10\n";
     let table = [
@@ -286,6 +298,7 @@ fn answer_of_two_puts(alloc: Global, leaves: usize) -> Option<(Result<u32, RunFa
 // The packet before is whole, and the report has nothing of the second.
 #[test]
 fn refused_put_that_leaves_octets(rt: HostRuntime) {
+    // guards: what-belongs-to-an-outlet
     for (leaves, put) in [(0, 7), (5, 12), (10, 17)] {
         let wanted = Some((Err(RunFault::Write), put));
         assert!(rt;

@@ -15,6 +15,7 @@ fn is_printed<F: Display>(alloc: Global, fault: &F, text: &str) -> bool {
 
 #[test]
 fn run_faults(rt: HostRuntime) {
+    // guards: what-is-only-tested
     let texts = [
         (RunFault::Read, "read failed"),
         (RunFault::Write, "write failed"),
@@ -33,6 +34,7 @@ fn run_faults(rt: HostRuntime) {
 
 #[test]
 fn checkpoint_faults(rt: HostRuntime) {
+    // guards: what-is-only-tested
     let texts = [
         (CheckpointFault::Short, "short"),
         (CheckpointFault::Magic, "magic"),

@@ -41,6 +41,7 @@ fn run_rows(
 
 #[test]
 fn worked_rows_by_fields(rt: HostRuntime) {
+    // guards: head-row-and-rows-give-the-head-and-the-rows
     let table = [
         (TEXT, 100, RECORDING, 1, HEAD_AND_ROW, ""),
         (AND_ONE_BIT, 100, RECORDING, 1, HEAD_AND_ONE_BIT, SHORT),
@@ -61,6 +62,33 @@ fn worked_rows_by_fields(rt: HostRuntime) {
     }
 }
 
+// The packet behind its lead: record 0, begun in record 0 at place 0, channel 0, 16 octets.
+const LED_PACKET: &[u8] =
+    b"\x00\x00\x00\x00\x00\x00\x00\x00\x00\x00\x00\x00\x10\x00\x00\x00\x00\x64\xC0\x00\x00\x09\x07\xFF\xF0a,b\x3F\x80\x00\x00";
+
+// Its row: record 0, application 100, count 0, channel 0, and then 7, -1, `a,b` and 1.0.
+const ROW_OCTETS: &[u8] =
+    b"\x00\x00\x00\x00\x64\x00\x00\x00\x00\x00\x00\x00\x00\x00\x00\x00\x07\xFF\xFFa,b\x00\x00\x80\x3F";
+
+#[test]
+fn binary_forms(rt: HostRuntime) {
+    // guards: head-row-and-rows-give-the-head-and-the-rows
+    // guards: what-belongs-to-an-outlet
+    let alloc = rt.alloc();
+    let definition = Definition::read(alloc, TEXT.as_bytes()).expect(&rt, "the definition");
+    assert!(rt; definition.row_length() == 26);
+    let table = [
+        (Command::BinaryPackets, LED_PACKET),
+        (Command::BinaryFields(&definition, 100), ROW_OCTETS),
+        (Command::BinaryFields(&definition, 101), b""),
+    ];
+    for (command, octets) in table {
+        let mut bench = Bench::new(alloc, SETTINGS, RECORDING, 5).expect(&rt, "memory");
+        let answer = bench.close(alloc, By::Run(command));
+        assert!(rt; answer == Ok(1) && bench.has_given(octets, b""));
+    }
+}
+
 // How a run is answered whose write of this number fails, if what was written is a prefix of the head and the row.
 fn answer_at(alloc: Global, fails_at: u64) -> Option<Result<u32, RunFault>> {
     let (answer, bench) = run_rows(alloc, TEXT, 100, RECORDING, Device::Out, fails_at)?;
@@ -78,6 +106,7 @@ fn answer_at(alloc: Global, fails_at: u64) -> Option<Result<u32, RunFault>> {
 // the head is written.
 #[test]
 fn each_write_of_rows_failing(rt: HostRuntime) {
+    // guards: what-a-run-reads-and-when-it-flushes
     let alloc = rt.alloc();
     for fails_at in 1..=23u64 {
         assert!(rt; answer_at(alloc, fails_at) == Some(Err(RunFault::Write)));

@@ -3,7 +3,7 @@
 use crate::field_rows::AND_ONE_BIT;
 use std::alloc::{AllocError, Global};
 use tm_bits::push_escaped;
-use tm_fields::{Column, Definition, DefinitionFault, Lead, RowFault, Rows, number_at};
+use tm_fields::{Column, Definition, DefinitionFault, Lead, RowFault, RowForm, Rows, number_at};
 
 pub(crate) const TEXT: &str =
     "name, data_type, bit_length\nVERSION, uint, 8\nLEVEL, int, 12\nPAD, fill, 4\nLABEL, str, 24\nRATE, float, 32\n";
@@ -52,6 +52,7 @@ pub(crate) fn bits_of(alloc: Global, text: &[u8]) -> Result<u32, DefinitionFault
 
 #[test]
 fn head_and_row(rt: HostRuntime) {
+    // guards: head-row-and-rows-give-the-head-and-the-rows
     let alloc = rt.alloc();
     assert!(rt; bits_of(alloc, TEXT.as_bytes()) == Ok(128));
     assert!(rt; head_of(alloc, TEXT).is_some_and(|head| head.as_slice() == HEAD.as_bytes()));
@@ -68,6 +69,7 @@ fn bits_short(alloc: Global, text: &str) -> Option<(u64, u64)> {
 
 #[test]
 fn packet_that_is_a_bit_short(rt: HostRuntime) {
+    // guards: head-row-and-rows-give-the-head-and-the-rows
     let alloc = rt.alloc();
     let head = head_of(alloc, AND_ONE_BIT).expect(&rt, "a head");
     assert!(rt; head.as_slice().ends_with(b",RATE,EXTRA\n"));
@@ -82,9 +84,10 @@ fn writes_row(rows: &mut Rows<'_>) -> bool {
 // So many rows that the text that they are in is begun anew, one that is refused, and one after it.
 #[test]
 fn rows_one_behind_another(rt: HostRuntime) {
+    // guards: head-row-and-rows-give-the-head-and-the-rows
     let alloc = rt.alloc();
     let definition = Definition::read(alloc, TEXT.as_bytes()).expect(&rt, "a definition");
-    let mut rows = Rows::new(alloc, &definition);
+    let mut rows = Rows::new(alloc, &definition, RowForm::Text);
     assert!(rt; rows.bits_needed() == 128 && rows.row().is_empty());
     for _ in 0..2000u32 {
         assert!(rt; writes_row(&mut rows));
@@ -99,6 +102,7 @@ fn rows_one_behind_another(rt: HostRuntime) {
 
 #[test]
 fn numbers_at_places(rt: HostRuntime) {
+    // guards: how-numbers-are-read
     let octets = [0xFF, 0xF0];
     for (offset, bits, number) in [(0, 12, Some(4095)), (12, 5, None), (0, 0, None)] {
         assert!(rt; number_at(&octets, offset, bits) == number);
@@ -108,6 +112,7 @@ fn numbers_at_places(rt: HostRuntime) {
 // Fields that go back, lie over one another and begin within an octet: each value is cut out of the packet by hand.
 #[test]
 fn fields_anywhere(rt: HostRuntime) {
+    // guards: definitionread-gives-the-fields-or-the-refusal
     let alloc = rt.alloc();
     let text =
         "bit_offset,name,bit_length,data_type,unit\n48,ALL,64,uint,V\n56,LOW,12,uint,\n52,WIDE,64,int,\n68,TEXT,16,str,\n60,RAW,16,float,\n,NEXT,5,uint,\n0,ID,16,uint,\n56,MINUS,64,int,\n56,ONE,1,int,\n";
@@ -123,6 +128,7 @@ fn refusal(alloc: Global, text: &[u8]) -> Option<DefinitionFault> {
 
 #[test]
 fn definition_faults(rt: HostRuntime) {
+    // guards: definitionread-gives-the-fields-or-the-refusal
     let alloc = rt.alloc();
     let table = [
         (
@@ -193,6 +199,7 @@ fn fills(alloc: Global, count: u32, more: &[u8]) -> Result<Vec<u8>, AllocError> 
 
 #[test]
 fn most_fields(rt: HostRuntime) {
+    // guards: definitionread-gives-the-fields-or-the-refusal
     let alloc = rt.alloc();
     let table = [
         (1000, b"".as_slice(), None),
@@ -209,6 +216,8 @@ fn most_fields(rt: HostRuntime) {
 
 #[test]
 fn columns_and_printed_octets(rt: HostRuntime) {
+    // guards: push_escaped-prints-octets
+    // guards: fault-lines-and-exit-statuses
     let words = [
         (Column::Name, "name"),
         (Column::DataType, "data_type"),

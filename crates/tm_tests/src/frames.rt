@@ -33,6 +33,7 @@ const LAZY_DOG: &[u8] = b"The quick brown fox jumps over the lazy dog";
 
 #[test]
 fn error_control_values(rt: HostRuntime) {
+    // guards: error_control-is-that-of-the-standard
     assert!(rt; tm_frame::error_control(b"") == 0xFFFF);
     assert!(rt; tm_frame::error_control(b"\0") == 0xE1F0);
     assert!(rt; tm_frame::error_control(b"123456789") == 0x29B1);
@@ -46,6 +47,7 @@ fn error_control_values(rt: HostRuntime) {
 // Octets of a fixed pattern: 0 to 400 of them, and 65,541.
 #[test]
 fn error_control_both_ways(rt: HostRuntime) {
+    // guards: error_control-is-that-of-the-standard
     let mut octets = Vec::new(rt.alloc());
     for place in 0..65_541u32 {
         if place <= 400 {
@@ -64,17 +66,21 @@ fn error_control_both_ways(rt: HostRuntime) {
 
 #[test]
 fn two_packets(rt: HostRuntime) {
+    // guards: read-gives-the-good-frame-or-its-first-fault
+    // guards: list_frames-lists-the-whole-recording
     let listed = is_listed(rt.alloc(), BASE, TWO_PACKETS, 1, TWO_PACKETS_LINE);
     assert!(rt; listed == Some(true));
 }
 
 #[test]
 fn empty_recording(rt: HostRuntime) {
+    // guards: list_frames-lists-the-whole-recording
     assert!(rt; is_listed(rt.alloc(), BASE, "", 0, "") == Some(true));
 }
 
 #[test]
 fn error_control(rt: HostRuntime) {
+    // guards: error_control-is-that-of-the-standard
     let settings = "spacecraft = 42\nframe_length = 9\nerror_control = true\n";
     let recording = "02A000001FFE 55 25C9 02A000001FFE 54 25C9";
     let lines =
@@ -84,6 +90,7 @@ fn error_control(rt: HostRuntime) {
 
 #[test]
 fn skipped_octets(rt: HostRuntime) {
+    // guards: layout-refuses-only-what-is-out-of-range
     let text = "spacecraft = 42\nframe_length = 24\nerror_control = false\nskip_before = 4\n";
     let settings = settings_of(rt.alloc(), text).expect(&rt, "the settings");
     assert!(rt; settings.layout().record_length() == 28);
@@ -137,6 +144,7 @@ const FAULTS: [(&str, &str, &str); 10] = [
 
 #[test]
 fn frame_faults(rt: HostRuntime) {
+    // guards: read-gives-the-good-frame-or-its-first-fault
     for (settings, recording, line) in FAULTS {
         let listed = is_listed(rt.alloc(), settings, recording, 1, line);
         assert!(rt; listed == Some(true), "{recording} has no {line}");
@@ -163,6 +171,7 @@ pub(crate) fn list_through<R: BufferedSource, W: Drain>(
 
 #[test]
 fn through_readers_and_writers(rt: HostRuntime) {
+    // guards: devices-over-stds-readers-and-writers
     let alloc = rt.alloc();
     let octets = octets_of(alloc, WITH_REST).expect(&rt, "octets");
     let mut lines = Vec::new(alloc);
@@ -175,6 +184,7 @@ fn through_readers_and_writers(rt: HostRuntime) {
 // A buffer that holds no whole record, one, or all, so that records are read, or lent, or both.
 #[test]
 fn through_a_buffer(rt: HostRuntime) {
+    // guards: devices-over-stds-readers-and-writers
     let alloc = rt.alloc();
     let octets = octets_of(alloc, WITH_REST).expect(&rt, "octets");
     for capacity in [7, 30, 65_536] {
@@ -190,6 +200,7 @@ fn through_a_buffer(rt: HostRuntime) {
 // The first record is passed over, and more than is left is not.
 #[test]
 fn passed_over_by_a_seek(rt: HostRuntime) {
+    // guards: devices-over-stds-readers-and-writers
     let octets = octets_of(rt.alloc(), WITH_REST).expect(&rt, "octets");
     let reader = BufReader::new(rt.alloc(), Cursor::new(octets.as_slice()));
     let mut source = Seeking::new(reader.expect(&rt, "buffer"), false);
@@ -259,6 +270,7 @@ const KINDS: [ErrorKind; 2] = [ErrorKind::Other, ErrorKind::Interrupted];
 // The reader tells its place and its end, and can't be moved back. Where it can't tell one of these, nothing is passed over.
 #[test]
 fn failing_seek(rt: HostRuntime) {
+    // guards: devices-over-stds-readers-and-writers
     let answers = [(1, Ok(false)), (2, Ok(false)), (3, Err(DeviceFailed))];
     for kind in KINDS {
         for (call, answer) in answers {
@@ -297,6 +309,7 @@ fn list_between<R: BufferedSource>(
 // A read that fails once is a failure of the recording. The next read would find its end.
 #[test]
 fn failing_readers(rt: HostRuntime) {
+    // guards: devices-over-stds-readers-and-writers
     let alloc = rt.alloc();
     let refused = Some(Err(RunFault::Read));
     for kind in KINDS {
@@ -312,6 +325,7 @@ fn failing_readers(rt: HostRuntime) {
 // The first call writes the line, and the second one flushes it. Each is a failure of the output if it fails once. So is a write of nothing.
 #[test]
 fn failing_writers(rt: HostRuntime) {
+    // guards: devices-over-stds-readers-and-writers
     let alloc = rt.alloc();
     let octets = octets_of(alloc, TWO_PACKETS).expect(&rt, "octets");
     let refused = Some(Err(RunFault::Write));

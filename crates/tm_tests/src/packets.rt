@@ -8,6 +8,7 @@ use tm_packet::{
 
 #[test]
 fn packet_headers(rt: HostRuntime) {
+    // guards: packet-headers-are-those-of-the-standard
     let octets = [0x00, 0x64, 0xC0, 0x00, 0x00, 0x00];
     assert!(rt; read_header(&octets[..5]) == Err(PacketFault::Short));
     assert!(rt; read_header(&[0xE0, 0, 0, 0, 0, 0]) == Err(PacketFault::Version));
@@ -94,12 +95,14 @@ fn all_give(tracker: &mut Tracker, packets: &[(Flags, u16, [Option<Note>; 3])]) 
 
 #[test]
 fn group_broken_by_gap(rt: HostRuntime) {
+    // guards: trackertake-gives-the-notes-of-the-next-header
     let mut tracker = Tracker::new(rt.alloc()).expect(&rt, "memory");
     assert!(rt; all_give(&mut tracker, &BROKEN_BY_GAP));
 }
 
 #[test]
 fn groups(rt: HostRuntime) {
+    // guards: trackertake-gives-the-notes-of-the-next-header
     let mut tracker = Tracker::new(rt.alloc()).expect(&rt, "memory");
     assert!(rt; all_give(&mut tracker, &GROUPS));
     let idle = Header::new(false, false, 2047, Flags::Unsegmented, 0, 7);
@@ -137,6 +140,7 @@ fn spells_two(alloc: Global, tracker: &Tracker) -> bool {
 
 #[test]
 fn spelling_of_two_packets(rt: HostRuntime) {
+    // guards: a-trackers-spelling
     let alloc = rt.alloc();
     let mut tracker = Tracker::new(alloc).expect(&rt, "memory");
     assert!(rt; takes_two(&mut tracker));
@@ -148,6 +152,7 @@ fn spelling_of_two_packets(rt: HostRuntime) {
 
 #[test]
 fn decode_faults(rt: HostRuntime) {
+    // guards: a-trackers-spelling
     let order = [
         0, 2, 0x08, 0x64, 0, 1, 0xFF, 0xFF, 0, 0x64, 0, 1, 0xFF, 0xFF,
     ];

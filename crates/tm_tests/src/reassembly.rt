@@ -45,6 +45,7 @@ fn is_one(channel: u8, channels: &[u8]) -> bool {
 
 #[test]
 fn channels(rt: HostRuntime) {
+    // guards: lengths-channels-and-the-words-for-dropped-parts
     let table = [
         ([0, 3].as_slice(), Some(9)),
         (&[0, 0], None),
@@ -109,6 +110,8 @@ fn is_held(reassembly: &Reassembly) -> bool {
 
 #[test]
 fn held_and_closed(rt: HostRuntime) {
+    // guards: refusals-and-the-closed-end
+    // guards: the-parts-of-the-state
     let alloc = rt.alloc();
     let mut sink = sink_of(alloc, SHORT_REST.items, &[]);
     let reassembly = after_records(alloc, &SHORT_REST, 2, &mut sink).expect(&rt, "two records");
@@ -130,6 +133,7 @@ fn kept_of_first(alloc: Global, row: &Row) -> Option<(usize, Option<u8>)> {
 
 #[test]
 fn kept_of_the_first_record(rt: HostRuntime) {
+    // guards: the-parts-of-the-state
     let alloc = rt.alloc();
     assert!(rt; kept_of_first(alloc, &TWO_PACKETS) == Some((0, Some(0))));
     assert!(rt; kept_of_first(alloc, &HELD_AFTER_FIRST_RECORD) == Some((18, Some(0))));
@@ -150,6 +154,7 @@ fn spelled_state(alloc: Global) -> Option<Vec<u8>> {
 
 #[test]
 fn state_after_three_records(rt: HostRuntime) {
+    // guards: a-states-spelling
     let spelled = spelled_state(rt.alloc()).expect(&rt, "a state");
     assert!(rt; spelled.as_slice() == STATE.as_slice());
 }
@@ -184,6 +189,7 @@ fn is_master(reassembly: &Reassembly, master: Option<u8>) -> bool {
 
 #[test]
 fn state_that_is_read_again(rt: HostRuntime) {
+    // guards: the-parts-of-the-state
     let alloc = rt.alloc();
     assert!(rt; is_read_again(alloc, false, &STATE, Some(2)) == Some(true));
     assert!(rt; is_read_again(alloc, true, &OLD_STATE, None) == Some(true));
@@ -203,6 +209,7 @@ fn is_full(alloc: Global, is_old: bool, octets: &[u8]) -> Option<bool> {
 
 #[test]
 fn greatest_number_of_records(rt: HostRuntime) {
+    // guards: refusals-and-the-closed-end
     let alloc = rt.alloc();
     let full = [0xFF, 0xFF, 0xFF, 0xFF, 0, 0, 0, 0, 0, 0, 0, 0, 0];
     assert!(rt; is_full(alloc, false, &full) == Some(true));
@@ -250,6 +257,7 @@ const DECODE_FAULTS: [(bool, &[u8], StateFault); 11] = [
 
 #[test]
 fn decode_faults(rt: HostRuntime) {
+    // guards: a-states-spelling
     for &(is_old, octets, fault) in &DECODE_FAULTS {
         let answer = decode(rt.alloc(), is_old, octets).err();
         assert!(rt; answer == Some(fault), "{octets:?}");
@@ -275,5 +283,7 @@ fn is_greatest_given(alloc: Global) -> Option<bool> {
 
 #[test]
 fn greatest_packet(rt: HostRuntime) {
+    // guards: the-parts-of-the-state
+    // guards: exactly-the-whole-packets-are-given
     assert!(rt; is_greatest_given(rt.alloc()) == Some(true));
 }

@@ -7,7 +7,7 @@ use crate::runs::settings_of;
 use std::alloc::Global;
 use std::process::Abort;
 use std::rt::Files;
-use tm_fields::{Definition, DefinitionFault, RowFault, Rows};
+use tm_fields::{Definition, DefinitionFault, RowFault, RowForm, Rows};
 use tm_frame::Layout;
 use tm_memory::{Answer, NOTHING_HELD, Turns, try_twice};
 use tm_packet::{Tracker, TrackerFault};
@@ -233,7 +233,7 @@ fn row_made(alloc: Global, definition: &Definition) -> Answer {
 }
 
 fn row_written(alloc: Global, definition: &Definition) -> Answer {
-    let mut rows = Rows::new(alloc, definition);
+    let mut rows = Rows::new(alloc, definition, RowForm::Text);
     match rows.write(LEAD, &PACKET) {
         Ok(()) => Answer::right_if(rows.row() == ROW.as_bytes()),
         Err(fault) => Answer::refused_if(fault == RowFault::NoMemory && rows.row().is_empty()),
@@ -261,65 +261,78 @@ fn job_made(alloc: Global, settings: &Settings) -> Answer {
 
 #[test]
 fn new_tracker(rt: HostRuntime) {
+    // guards: keys-open-groups-and-the-list-of-notes
     assert!(rt; passes_call(&rt, Call::NewTracker));
 }
 
 #[test]
 fn encode_tracker(rt: HostRuntime) {
+    // guards: a-trackers-spelling
     assert!(rt; passes_call(&rt, Call::EncodeTracker));
 }
 
 #[test]
 fn decode_tracker(rt: HostRuntime) {
+    // guards: a-trackers-spelling
     assert!(rt; passes_call(&rt, Call::DecodeTracker));
 }
 
 #[test]
 fn new_reassembly(rt: HostRuntime) {
+    // guards: the-parts-of-the-state
     assert!(rt; passes_call(&rt, Call::NewReassembly));
 }
 
 #[test]
 fn encode_reassembly(rt: HostRuntime) {
+    // guards: a-states-spelling
     assert!(rt; passes_call(&rt, Call::EncodeReassembly));
 }
 
 #[test]
 fn decode_reassembly(rt: HostRuntime) {
+    // guards: a-states-spelling
     assert!(rt; passes_call(&rt, Call::DecodeReassembly));
 }
 
 #[test]
 fn decode_old_reassembly(rt: HostRuntime) {
+    // guards: a-states-spelling
     assert!(rt; passes_call(&rt, Call::DecodeOldReassembly));
 }
 
 #[test]
 fn read_definition(rt: HostRuntime) {
+    // guards: definitionread-gives-the-fields-or-the-refusal
     assert!(rt; passes_call(&rt, Call::ReadDefinition));
 }
 
 #[test]
 fn head_of_rows(rt: HostRuntime) {
+    // guards: head-row-and-rows-give-the-head-and-the-rows
     assert!(rt; passes_call(&rt, Call::Head));
 }
 
 #[test]
 fn row_of_a_packet(rt: HostRuntime) {
+    // guards: head-row-and-rows-give-the-head-and-the-rows
     assert!(rt; passes_call(&rt, Call::Row));
 }
 
 #[test]
 fn row_of_rows(rt: HostRuntime) {
+    // guards: head-row-and-rows-give-the-head-and-the-rows
     assert!(rt; passes_call(&rt, Call::KeptRow));
 }
 
 #[test]
 fn read_settings(rt: HostRuntime) {
+    // guards: settingsread-gives-the-settings-or-the-refusal
     assert!(rt; passes_call(&rt, Call::ReadSettings));
 }
 
 #[test]
 fn new_job(rt: HostRuntime) {
+    // guards: a-jobs-checkpoint-is-written-and-read
     assert!(rt; passes_call(&rt, Call::NewJob));
 }

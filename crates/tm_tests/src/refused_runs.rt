@@ -46,6 +46,7 @@ impl Tried for Written {
 
 #[test]
 fn checkpoint_of_a_job(rt: HostRuntime) {
+    // guards: a-jobs-checkpoint-is-written-and-read
     let mut written = try_twice(|| Written::new(rt.alloc())).expect(&rt, "a checkpoint");
     assert!(rt; passes(&rt, &mut written));
 }
@@ -79,6 +80,7 @@ impl Tried for Resumed {
 
 #[test]
 fn resumed_job(rt: HostRuntime) {
+    // guards: a-jobs-checkpoint-is-written-and-read
     let table = [
         (CHECKPOINT, BASE, 3),
         (VERSION_2, BASE, 3),
@@ -328,11 +330,13 @@ fn passes_row<R: Files + AllocGlobal + Abort>(rt: &R, row: &Row, task: Task) -> 
 
 #[test]
 fn listed_frames(rt: HostRuntime) {
+    // guards: list_frames-lists-the-whole-recording
     assert!(rt; passes_row(&rt, &POINTER_DROP_AND_SEQUENCE_GAP, Task::Frames));
 }
 
 #[test]
 fn summed_recording(rt: HostRuntime) {
+    // guards: summarize-writes-the-recordings-summary
     assert!(rt; passes_row(&rt, &POINTER_DROP_AND_SEQUENCE_GAP, Task::Summary));
 }
 
@@ -348,6 +352,7 @@ fn reported_rows() -> [&'static Row; 4] {
 
 #[test]
 fn run_by_extract(rt: HostRuntime) {
+    // guards: run-stops-at-one-place-in-both-outputs
     for row in reported_rows() {
         assert!(rt; passes_row(&rt, row, Task::Extract), "{}", row.name);
     }
@@ -355,6 +360,7 @@ fn run_by_extract(rt: HostRuntime) {
 
 #[test]
 fn run_by_packets(rt: HostRuntime) {
+    // guards: run-stops-at-one-place-in-both-outputs
     for row in reported_rows() {
         assert!(rt; passes_row(&rt, row, Task::Packets), "{}", row.name);
     }
@@ -362,11 +368,13 @@ fn run_by_packets(rt: HostRuntime) {
 
 #[test]
 fn run_by_fields(rt: HostRuntime) {
+    // guards: run-stops-at-one-place-in-both-outputs
     assert!(rt; passes_row(&rt, &FIELDS, Task::Fields));
 }
 
 #[test]
 fn split_recordings(rt: HostRuntime) {
+    // guards: split-gives-each-application-its-packets
     for row in reported_rows() {
         assert!(rt; passes_row(&rt, row, Task::Split), "{}", row.name);
     }
@@ -396,6 +404,7 @@ fn in_held_memory<R: Files + AllocGlobal + Abort>(rt: &R, running: &mut Running)
 // A run whose report has no line takes no memory behind its job: with none left it closes the recording and gives all.
 #[test]
 fn closed_without_memory(rt: HostRuntime) {
+    // guards: the-parts-of-the-state
     for task in [Task::Extract, Task::Packets, Task::Split] {
         let running = try_twice(|| two_channels(rt.alloc(), task));
         let mut running = running.expect(&rt, "devices");

@@ -237,6 +237,7 @@ fn row_refused(rt: &impl Abort, alloc: Global, row: &Row) {
 
 #[test]
 fn each_item_refused(rt: HostRuntime) {
+    // guards: refusals-and-the-closed-end
     for row in rows() {
         row_refused(&rt, rt.alloc(), row);
     }

@@ -31,6 +31,7 @@ fn is_read(alloc: Global, text: &str, parts: LayoutParts, record: usize, limit: 
 
 #[test]
 fn read_with_defaults_and_without(rt: HostRuntime) {
+    // guards: settingsread-gives-the-settings-or-the-refusal
     assert!(rt; is_read(rt.alloc(), BASE, base(), 24, 65_542));
     let text =
         "spacecraft = 42\nframe_length = 24\nerror_control = false\nskip_before = 4\nskip_after = 1024\nsecondary = \"always\"\nocf = \"never\"\nchannels = [7, 0]\nmax_packet = 7\n";
@@ -77,6 +78,7 @@ fn is_refused(alloc: Global, text: &str, words: &str) -> bool {
 
 #[test]
 fn settings_faults(rt: HostRuntime) {
+    // guards: settingsread-gives-the-settings-or-the-refusal
     let parts = LayoutParts {
         frame_length: 8,
         spacecraft: 1024,

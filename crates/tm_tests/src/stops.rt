@@ -106,6 +106,11 @@ fn row_goes_in_steps(alloc: Global, row: &Row, going: Going) -> Option<bool> {
 
 #[test]
 fn worked_rows_in_steps(rt: HostRuntime) {
+    // guards: step-gives-exactly-the-items-of-its-record
+    // guards: each-item-is-given-once-at-the-record-that-completes-it
+    // guards: what-more-records-leave-as-it-is
+    // guards: the-notes-are-those-of-the-whole-list-of-headers
+    // guards: a-resumed-job-gives-what-one-run-gives
     let alloc = rt.alloc();
     for row in rows() {
         let kept = row_goes_in_steps(alloc, row, Going::Kept);
@@ -116,6 +121,8 @@ fn worked_rows_in_steps(rt: HostRuntime) {
 
 #[test]
 fn rows_of_fields_in_steps(rt: HostRuntime) {
+    // guards: run-writes-exactly-its-records-pieces
+    // guards: a-resumed-job-gives-what-one-run-gives
     let alloc = rt.alloc();
     let text = b"name,data_type,bit_length\nA,uint,8\n";
     let definition = Definition::read(alloc, text).expect(&rt, "the definition");
@@ -130,6 +137,7 @@ fn rows_of_fields_in_steps(rt: HostRuntime) {
 // The octets of all puts, one after the other, are those that `extract` writes.
 #[test]
 fn worked_rows_split_in_steps(rt: HostRuntime) {
+    // guards: a-resumed-job-gives-what-one-run-gives
     let alloc = rt.alloc();
     for row in rows() {
         let octets = octets_of(alloc, row.octets).expect(&rt, "octets");
@@ -172,6 +180,7 @@ fn stopped_once(alloc: Global, row: &Row, records: u32) -> Option<Vec<u8>> {
 
 #[test]
 fn two_channels_stopped_once(rt: HostRuntime) {
+    // guards: a-checkpoint-is-read-again-as-the-same-work
     for records in 1..=4u32 {
         let checkpoint = stopped_once(rt.alloc(), &TWO_CHANNELS, records);
         assert!(rt; checkpoint.is_some(), "after {records} records");
@@ -190,6 +199,7 @@ const GAP_1: &str = "544D5843 01 002A 0018 0000 0000 00 00 00 FF 00000003 \
 
 #[test]
 fn known_checkpoints(rt: HostRuntime) {
+    // guards: a-checkpoint-is-read-again-as-the-same-work
     let alloc = rt.alloc();
     let table = [
         (&TWO_CHANNELS, 3, CHECKPOINT),
@@ -222,6 +232,8 @@ fn goes_on_from(
 // channel, so the report lacks its gap.
 #[test]
 fn resumed_from_three_versions(rt: HostRuntime) {
+    // guards: what-a-forgotten-master-count-costs
+    // guards: each-stop-in-an-older-version-costs-at-most-one-line
     let gap = FRAME_GAP.report;
     let older = gap.strip_prefix("mastergap record=3 expected=1 found=2 missing=1\n");
     let older = older.unwrap_or("");
@@ -271,6 +283,8 @@ fn is_in_version(alloc: Global, version: u8, text: &str) -> Option<bool> {
 // fourth. Its line is lost if and only if the last stop, behind which its frame is the first good one, is in an older version.
 #[test]
 fn stopped_in_several_versions(rt: HostRuntime) {
+    // guards: what-a-forgotten-master-count-costs
+    // guards: each-stop-in-an-older-version-costs-at-most-one-line
     let alloc = rt.alloc();
     let gap = FRAME_GAP.report;
     let older = gap.strip_prefix("mastergap record=3 expected=1 found=2 missing=1\n");
@@ -309,6 +323,7 @@ fn octets_read(alloc: Global) -> Option<usize> {
 // Stopped after two records, a run has left the other two unread: 48 octets.
 #[test]
 fn reads_two_records(rt: HostRuntime) {
+    // guards: what-a-run-reads-and-when-it-flushes
     assert!(rt; octets_read(rt.alloc()) == Some(48));
 }
 
@@ -336,6 +351,7 @@ fn rest_is_kept(alloc: Global) -> Option<bool> {
 
 #[test]
 fn short_rest_kept(rt: HostRuntime) {
+    // guards: what-a-run-reads-and-when-it-flushes
     assert!(rt; rest_is_kept(rt.alloc()) == Some(true));
 }
 
@@ -354,6 +370,7 @@ fn answer_of_two_records(alloc: Global) -> Option<Result<u32, RunFault>> {
 
 #[test]
 fn recording_too_short(rt: HostRuntime) {
+    // guards: run-stops-at-one-place-in-both-outputs
     let wanted = Some(Err(RunFault::ShortRecording));
     assert!(rt; answer_of_two_records(rt.alloc()) == wanted);
 }

@@ -21,6 +21,7 @@ fn row_is_summed(alloc: Global, row: &Row) -> Option<bool> {
 
 #[test]
 fn summaries_of_worked_rows(rt: HostRuntime) {
+    // guards: each-number-is-a-count-over-whole-lists
     let alloc = rt.alloc();
     for row in rows() {
         assert!(rt; row_is_summed(alloc, row) == Some(true), "{}", row.name);
@@ -63,6 +64,7 @@ fn row_is_told(alloc: Global, row: &Row) -> Option<bool> {
 
 #[test]
 fn losses_of_worked_rows(rt: HostRuntime) {
+    // guards: each-number-is-a-count-over-whole-lists
     let alloc = rt.alloc();
     for row in rows() {
         assert!(rt; row_is_told(alloc, row) == Some(true), "{}", row.name);
@@ -96,6 +98,7 @@ fn calls_of(alloc: Global, bench: &mut Bench, device: Device) -> u64 {
 
 #[test]
 fn summaries_of_devices_that_fail(rt: HostRuntime) {
+    // guards: summarize-writes-the-recordings-summary
     let alloc = rt.alloc();
     let row = &POINTER_DROP_AND_SEQUENCE_GAP;
     let bench = Bench::new(alloc, row.settings, row.recording, 7);

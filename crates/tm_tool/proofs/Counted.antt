@@ -1,5 +1,5 @@
 -- What a run gave and lost, in numbers: of one item, one record, and all that it read.
-use Rattle.std.proofs.Common.{◌≡◌, ◌<◌, ◌+◌, ◌%◌, ◌^◌, ◌||◌, ℕ, Bool, true, false, List, [], ◌∷◌, ◌++◌, length, refl, sym, ap, subst, ◌∙◌, append-nil, append_assoc, arith, inl, inr, Option, Some, None, Result, Ok, Err, OnOk, IfErr, map, replicate, if◌then◌else◌, sum_by}
+use Rattle.std.proofs.Common.{◌≡◌, ◌+◌, ◌%◌, ◌^◌, ◌||◌, ℕ, Bool, true, false, List, [], ◌∷◌, ◌++◌, refl, sym, ap, ◌∙◌, append-nil, append_assoc, arith, Option, Some, None, Ok, Err, replicate, if◌then◌else◌, sum_by}
 use Rattle.std.specs.List.{AllByRecursion, list_any}
 use Rattle.std.proofs.lemmas.List.Folds.{list_any-append}
 use Rattle.std.proofs.lemmas.List.Sums.{sum_by_push}
@@ -16,79 +16,23 @@ use Rattle.tm_items.specs.Item.{Item, Bad, MasterGap, Gap, Vca, Dropped, Packet,
 use Rattle.tm_reassembly.specs.Items.{closing}
 use Rattle.tm_reassembly.specs.Readings.{Reading}
 use Rattle.tm_reassembly.specs.Recording.{is_chosen_frame, is_chosen_reading}
-use Rattle.tm_faults.specs.declared.run.RunFault.{RunFault}
 use Rattle.tm_output.specs.declared.command.Ending.{Ending}
 use Rattle.tm_output.specs.declared.command.Ending.TheVariants.{Close, Keep, StopAfter}
 use Rattle.tm_output.specs.declared.totals.Totals.{Totals}
-use Rattle.tm_output.specs.Outputs.{Buffering, Written}
 use Rattle.tm_output.specs.Pieces.{HasLine, Texts, noted, noted_all, notes_of, sent}
-use Rattle.tm_output.specs.Totals.{capped, is_some_text, no_totals, note_tells_loss, notes_tell_loss, totals_with_item, totals_with_items, with_line, with_loss, totals_with_packet, with_record, with_unclosed}
+use Rattle.tm_output.specs.Totals.{capped, no_totals, note_tells_loss, notes_tell_loss, totals_with_item, totals_with_items, with_line, with_loss, with_record, with_unclosed}
 use Rattle.tm_output.specs.code.Outlets.{GivesNone}
 use Rattle.tm_summary.specs.Kinds.{Noted, drop_octets, is_bad, master_missing}
-use Rattle.tm_summary.specs.SummaryNumbers.{Tally, and_note, how_many, in_all, nothing}
+use Rattle.tm_summary.specs.SummaryNumbers.{Tally, and_note, in_all, nothing}
 use Rattle.tm_summary.specs.Tallies.{and_items, and_notes, noted_at, notes_among, notes_in, open_notes}
 use Rattle.tm_summary.proofs.OneMore.{how_many_more, in_all_more}
 use Rattle.tm_checkpoint.specs.Works.{Work}
 use Rattle.tm_tool.specs.RecordingPieces.{items_of, worked}
-use Rattle.tm_tool.specs.Runs.{behind}
-use Rattle.tm_tool.specs.RunTotals.{absent_channels, end_items, closing_notes, frames_in, good_frames, is_remarked, item_tells_loss, run_items, run_tally, run_totals, totals_of}
-use Rattle.tm_tool.specs.code.RecordLoop.{HasStepped, StillTakes, TakesBehind, TakesRecords, TakingStopped, ThenRefuses}
-use Rattle.tm_tool.specs.code.Stepping.{CountsTaken, RefusesCounted, RefusesRecord, RunState, TakesRecord, with_end}
+use Rattle.tm_tool.specs.RunTotals.{absent_channels, frames_in, is_remarked, item_tells_loss, run_tally, run_totals, totals_of}
+use Rattle.tm_tool.specs.code.Stepping.{with_end}
 use Rattle.tm_tool.specs.code.Summing.{CountedRecords, and_records}
-use Rattle.tm_tool.proofs.Running.{IsValid, holds_of_all, noted-append, still_taken, then_refused}
-use Rattle.tm_tool.proofs.SummaryEnds.{counted_more, counted_none, notes_among-append}
-
--- ---- a part of what is held, where records are taken
-
-module _ {V W : Type 0} (see : V → W) (takes : Work → List ℕ → V → V → Type 0) (seen : Work → List ℕ → W → W → Type 0)
-    (part : (w : Work) (one : List ℕ) (old new : V) → takes w one old new → seen w one (see old) (see new)) where
-  pub part_behind : (w : Work) (done rs : List (List ℕ)) (old new : V) → TakesBehind takes w done rs old new → TakesBehind seen w done rs (see old) (see new)
-  part_behind w done [] old new h = ap see h
-  part_behind w done (r ∷ rs) old new h = (see h.0, part (worked w done) r old h.0 h.1, part_behind w (done ++ r ∷ []) rs h.0 new h.2)
-
-  abbrev pub part_stepped : (ending : Ending) (w : Work) (first next : Option (List ℕ)) (old new : V) (now : Work) (n : ℕ)
-      → HasStepped (TakesRecords takes) ending w first next old new now n → HasStepped (TakesRecords seen) ending w first next (see old) (see new) now n
-  part_stepped ending w first next old new now n h = record {
-    read = h.read;
-    rest = h.rest;
-    passed = h.passed;
-    ended = h.ended;
-    left = h.left;
-    work = h.work;
-    took = part_behind w [] (behind w h.read) old new h.took;
-  }
-
-  pub part_stopped : (refuses : Work → List ℕ → V → V → RunFault → Type 0) (stops : Work → List ℕ → W → W → RunFault → Type 0)
-      → ((w : Work) (one : List ℕ) (old new : V) (fault : RunFault) → refuses w one old new fault → stops w one (see old) (see new) fault)
-      → (ending : Ending) (w : Work) (first next : Option (List ℕ)) (failures failures' : ℕ) (old new : V) (fault : RunFault)
-      → TakingStopped (TakesRecords takes) refuses ending w first next failures failures' old new fault
-      → TakingStopped (TakesRecords seen) stops ending w first next failures failures' (see old) (see new) fault
-  part_stopped refuses stops same ending w first next failures failures' old new fault (inl h) = inl (h.0, ap see h.1)
-  part_stopped refuses stops same ending w first next failures failures' old new fault (inr (inl h)) =
-      let k = h.0 in
-      let took = part_behind w [] (behind w k.read) old new k.took in
-      inr (inl (
-        record { read = k.read; part = k.part; octets = k.octets; short = k.short; passed = k.passed; wanted = k.wanted; took = took },
-        h.1,
-        h.2,
-      ))
-  part_stopped refuses stops same ending w first next failures failures' old new fault (inr (inr h)) =
-      let k = h.0 in
-      let took = part_behind w [] (behind w k.read) old k.mid k.took in
-      inr (inr (
-        record {
-          read = k.read;
-          one = k.one;
-          octets = k.octets;
-          exact = k.exact;
-          passed = k.passed;
-          wanted = k.wanted;
-          mid = see k.mid;
-          took = took;
-          stopped = same (worked w (behind w k.read)) k.one k.mid new fault k.stopped;
-        },
-        h.1,
-      ))
+use Rattle.tm_tool.proofs.Running.{noted-append}
+use Rattle.tm_tool.proofs.SummaryEnds.{notes_among-append}
 
 -- ---- one item more
 
@@ -339,59 +283,13 @@ module _ {A : Type 0} (text : Texts A) (none : (x : Item) → HasLine x → Give
       ∙ open_more text w.rules none (and_items (and_records w nothing rs) v.entries xs) us (all_lose text w.rules none 0 (noted_all v.entries xs))
       ∙ rw (noted-append w.entries (items_of w rs) xs) (rw (notes_among-append w.entries (items_of w rs) xs) refl)
 
-module _ {A K : Type 0} (grows : K → K → List A → Type 0) (text : Texts A) where
-  -- what is known of the outputs, where records were taken and counted
-  abbrev pub views_stepped : (ending : Ending) (w : Work) (first next : Option (List ℕ)) (old new : RunState K) (now : Work) (n : ℕ)
-      → HasStepped (TakesRecords (CountsTaken grows text)) ending w first next old new now n
-      → HasStepped (TakesRecords (TakesRecord grows text)) ending w first next old.view new.view now n
-  views_stepped = part_stepped (λ (s : RunState K). s.view) (CountsTaken grows text) (TakesRecord grows text) (λ w one old new took. took.0)
-
-  pub views_stopped : (buffering : Buffering) (ending : Ending) (w : Work) (first next : Option (List ℕ)) (failures failures' : ℕ) (old new : RunState K) (fault : RunFault)
-      → TakingStopped (TakesRecords (CountsTaken grows text)) (RefusesCounted grows text buffering) ending w first next failures failures' old new fault
-      → TakingStopped (TakesRecords (TakesRecord grows text)) (RefusesRecord grows text buffering) ending w first next failures failures' old.view new.view fault
-  views_stopped buffering =
-      part_stopped (λ (s : RunState K). s.view) (CountsTaken grows text) (TakesRecord grows text) (λ w one old new took. took.0)
-      (RefusesCounted grows text buffering) (RefusesRecord grows text buffering) (λ w one old new fault stopped. stopped)
-
-module _ {A K : Type 0} (grows : K → K → List A → Type 0) (text : Texts A) (none : (x : Item) → HasLine x → GivesNone text x) where
-  -- so a run over records that were taken, and their ending, counts them
-  pub run_counted : (ending : Ending) (w : Work) → IsValid w → (first next : Option (List ℕ)) (old mid : RunState K) (v : Work) (n : ℕ) (now : Totals)
-      → old.totals ≡ no_totals → (h : HasStepped (TakesRecords (CountsTaken grows text)) ending w first next old mid v n)
-      → now ≡ with_end text ending v n mid.totals → (absent : List Bool) → absent ≡ absent_channels v
-      → record now { absent = absent } ≡ run_totals text ending w (behind w h.read) (length h.rest)
-  run_counted ending w valid first next old mid v n now begun h now_is absent absent_is =
-      let of_run : Tally → Totals = totals_of text w.rules in
-      let counts = part_behind (λ (s : RunState K). s.totals) (CountsTaken grows text)
-      (λ (x : Work) (one : List ℕ). CountedRecords (totals_of text x.rules) x (one ∷ [])) (λ x one before after took. took.1)
-      w [] (behind w h.read) old mid h.took in
-      let begun_is : old.totals ≡ of_run nothing = begun ∙ none_told text w.rules in
-      let sum : mid.totals ≡ of_run (and_records w nothing (behind w h.read)) =
-      holds_of_all (λ (x : Work) (one : List ℕ). CountedRecords (totals_of text x.rules) x (one ∷ [])) (CountedRecords of_run w) w
-      (counted_more w valid of_run) (counted_none of_run w) (behind w h.read) old.totals mid.totals counts nothing begun_is in
-      let all = now_is
-      ∙ ap (λ (t : Totals). with_end text ending v n t) sum
-      ∙ ap (λ (x : Work). with_end text ending x n (of_run (and_records w nothing (behind w h.read)))) h.work
-      ∙ ap (λ (m : ℕ). with_end text ending (worked w (behind w h.read)) m (of_run (and_records w nothing (behind w h.read)))) (sym h.left)
-      ∙ ended text none w (behind w h.read) ending (length h.rest) in
+module _ {A : Type 0} (text : Texts A) (none : (x : Item) → HasLine x → GivesNone text x) (w : Work) where
+  -- so a run over records that were counted, and their ending, counts them
+  pub run_counted : (ending : Ending) (rs : List (List ℕ)) (v : Work) (rest : ℕ) (before mid now : Totals) → before ≡ no_totals
+      → CountedRecords (totals_of text w.rules) w rs before mid → v ≡ worked w rs → now ≡ with_end text ending v rest mid
+      → (absent : List Bool) → absent ≡ absent_channels v → record now { absent = absent } ≡ run_totals text ending w rs rest
+  run_counted ending rs v rest before mid now begun counted at now_is absent absent_is =
+      let sum = counted nothing (begun ∙ none_told text w.rules) in
+      let all : now ≡ totals_of text w.rules (run_tally ending w rs rest) = now_is ∙ rw (sum, at) (ended text none w rs ending rest) in
       ap (λ (t : Totals). record t { absent = absent }) all
-      ∙ ap (λ (l : List Bool). record (totals_of text w.rules (run_tally ending w (behind w h.read) (length h.rest))) { absent = l })
-      (absent_is ∙ ap absent_channels h.work)
-
--- ---- a flush behind a record
-
-module _ {A K : Type 0} (grows : K → K → List A → Type 0) (grows-nil : (k : K) → grows k k [])
-    (grows-trans : (j k l : K) (xs ys : List A) → grows j k xs → grows k l ys → grows j l (xs ++ ys)) (text : Texts A) (buffering : Buffering)
-    (mid new : RunState K) where
-  pub still_counted : {T : Type 0} (r : Result T RunFault) → Written grows buffering mid.view new.view [] r → new.totals ≡ mid.totals
-      → OnOk r (StillTakes (CountsTaken grows text) mid new)
-  still_counted (Ok x) none same = λ w one before took. (
-    still_taken grows grows-nil grows-trans text buffering mid.view new.view (Ok x) none w one before.view took.0,
-    subst (CountedRecords (totals_of text w.rules) w (one ∷ []) before.totals) (sym same) took.1,
-  )
-  still_counted (Err fault) stopped same = tt
-
-  pub then_stopped : {T : Type 0} (r : Result T RunFault) → Written grows buffering mid.view new.view [] r
-      → IfErr r (ThenRefuses (CountsTaken grows text) (RefusesCounted grows text buffering) mid new)
-  then_stopped (Ok x) none = tt
-  then_stopped {T} (Err fault) stopped = λ w one before took.
-      then_refused grows grows-nil grows-trans text buffering mid.view new.view {T = T} (Err fault) stopped w one before.view took.0
+      ∙ ap (λ (l : List Bool). record (totals_of text w.rules (run_tally ending w rs rest)) { absent = l }) (absent_is ∙ ap absent_channels at)

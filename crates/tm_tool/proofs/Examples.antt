@@ -23,6 +23,7 @@ use Rattle.tm_checkpoint.specs.Checkpoints.{version_in, resumed, spelled_in, wor
 use Rattle.tm_frame.specs.ErrorControl.{error_control_of, long_division, subtract}
 use Rattle.tm_packet.specs.Spelling.{state_of}
 use Rattle.tm_reassembly.specs.Checkpoint.{block_read, blocks_read, state_decoding_of, master_read, old_decoding_of}
+use Rattle.tm_fields.specs.declared.rows.RowForm.TheVariants.{Text}
 use Rattle.tm_output.specs.FieldRows.{tabled, too_short}
 use Rattle.tm_checkpoint.specs.Works.{new_job, Work}
 use Rattle.tm_checkpoint.specs.declared.version.Version.TheVariants as version
@@ -163,11 +164,11 @@ one_packet =
     ∷ 0x00 ∷ 0x64 ∷ 0xC0 ∷ 0x00 ∷ 0x00 ∷ 0x09 ∷ 0x07 ∷ 0xFF ∷ 0xF0 ∷ 0x61 ∷ 0x2C ∷ 0x62 ∷ 0x3F ∷ 0x80 ∷ 0x00 ∷ 0x00 ∷ []
 
 record RowExamples : Type 0 where
-  head_and_row : outs (rows_head five_fields true ++ pieces (rows_text five_fields 100) Close (job 22) one_packet)
+  head_and_row : outs (rows_head five_fields true ++ pieces (rows_text Text five_fields 100) Close (job 22) one_packet)
       ≡ head_of five_fields ++ (row_of five_fields (record { seen = 0; channel = 0; application = 100; count = 0 }) (drop 6 one_packet) ++ [])
-  other_application : outs (rows_head five_fields true ++ pieces (rows_text five_fields 101) Close (job 22) one_packet)
+  other_application : outs (rows_head five_fields true ++ pieces (rows_text Text five_fields 101) Close (job 22) one_packet)
       ≡ head_of five_fields ++ []
-  one_bit_short : reports (pieces (rows_text (record { name = codes "EXTRA"; data_type = Uint; begin = 128; length = 1 } ∷ five_fields) 100) Close (job 22) one_packet)
+  one_bit_short : reports (pieces (rows_text Text (record { name = codes "EXTRA"; data_type = Uint; begin = 128; length = 1 } ∷ five_fields) 100) Close (job 22) one_packet)
       ≡ short_packet_line 0 0 0 0 129 128
 
 row_examples : RowExamples

@@ -8,17 +8,18 @@ use Rattle.tm_output.specs.Outputs.{AppendsCut, CausedByOutput, Piece, Took, Vie
 use Rattle.tm_output.specs.Pieces.{Texts, buffering_of}
 use Rattle.tm_checkpoint.specs.Works.{Work}
 use Rattle.tm_tool.specs.RecordingPieces.{pieces}
-use Rattle.tm_tool.specs.Runs.{IsHeadedStop, IsStoppedAt, StoppedIn, devices_at}
+use Rattle.tm_tool.specs.Runs.{IsHeadedStop, StoppedIn, course, devices_at}
+use Rattle.tm_tool.specs.Courses.{RecordCourse, IsStoppedAt, whole}
+use Rattle.tm_tool.proofs.Courses.{run_cut, run_many, run_short, stopped_at}
 use Rattle.tm_output.proofs.PieceLemmas.{cut_after, stopped_more, stops_after, flush_out, flushed, stopped_put, took_failed, took_piece}
-use Rattle.tm_tool.proofs.Running.{IsValid}
-use Rattle.tm_tool.proofs.RunPieces.{run_cut, run_many, run_short, stopped_at}
+use Rattle.tm_tool.proofs.Running.{IsValid, is_course, pieces_whole}
 use Rattle.std.specs.Io.KnownBytes.{Appends, Keeps}
 use Rattle.tm_devices.specs.Devices.{raised}
 use Rattle.tm_fields.specs.Rows.{head_of}
 use Rattle.tm_fields.specs.declared.definition.Definition.{Definition}
 use Rattle.tm_output.specs.declared.command.Command.{Command}
 use Rattle.tm_output.specs.declared.command.Command.TheVariants.{Extract, Fields}
-use Rattle.tm_faults.specs.declared.run.RunFault.TheVariants.{NoMemory, Write}
+use Rattle.tm_faults.specs.declared.run.RunFault.TheVariants.{NoMemory, ShortRecording, TooMany, Write}
 use Rattle.tm_tool.specs.HeadPieces.{head_pieces}
 use Rattle.tm_tool.specs.code.Heads.{HeadStopped, head_text}
 
@@ -66,8 +67,11 @@ module _ {A K : Type 0} (grows : K → K → List A → Type 0) (grows-nil : (k 
       let both = Appends-trans old.report mid.report new.report (reports head) report headed.whole.1 reports_new in
       (outs head ++ out, reports head ++ report, cut_after head ps out report cut, grows-trans _ _ _ _ _ headed.whole.0 outs_new, both)
 
+  abbrev Told : List ℕ → Type 0
+  Told octets = StoppedIn grows buffering text ending w head old new fault octets
+
   pub stop_told : (first : Option (List ℕ)) → IsHeadedStop grows buffering text ending w head (devices_at first failures old) (devices_at next failures' new) fault
-      → IfSome first (StoppedIn grows buffering text ending w head old new fault)
+      → IfSome first Told
   stop_told None h = tt
   stop_told (Some octets) (inl h) =
       let all = stopped_more grows grows-nil grows-trans buffering old new head (pieces text ending w octets) fault h.stopped in
@@ -79,13 +83,16 @@ module _ {A K : Type 0} (grows : K → K → List A → Type 0) (grows-nil : (k 
         short = λ e. absurd (subst (CausedByOutput old new) e h.stopped.cause);
       }
   stop_told (Some octets) (inr h) =
-      let writes = stopped_at grows grows-nil grows-trans buffering text ending w valid some (Some octets) next h.mid new in
+      let c : RecordCourse A = course text ending w in
+      let own = is_course text ending w valid in
+      let here : List (Piece A) = whole c octets in
+      let is : pieces text ending w octets ≡ here = pieces_whole text ending w valid octets in
+      let stop = λ (f : RunFault) (e : fault ≡ f). subst (IsStoppedAt grows buffering c (Some octets) next h.mid new) e h.stopped in
+      let writes = stopped_at c own some (Some octets) next grows grows-nil grows-trans buffering h.mid new in
       record {
-        cut = cut_behind h.mid (pieces text ending w octets) h.headed (run_cut grows grows-nil grows-trans buffering text ending w valid some (Some octets) next h.mid new fault h.stopped);
-        memory = λ e. stops_after grows grows-nil grows-trans old h.mid head (pieces text ending w octets) h.headed
-            ((writes NoMemory (subst (IsStoppedAt grows buffering text ending w (Some octets) next h.mid new) e h.stopped)).memory refl);
-        refused = λ e kept. stops_after grows grows-nil grows-trans old h.mid head (pieces text ending w octets) h.headed
-            ((writes Write (subst (IsStoppedAt grows buffering text ending w (Some octets) next h.mid new) e h.stopped)).refused refl kept);
-        too_many = λ e. run_many grows grows-nil grows-trans buffering text ending w valid some (Some octets) next h.mid new (subst (IsStoppedAt grows buffering text ending w (Some octets) next h.mid new) e h.stopped);
-        short = λ e. run_short grows grows-nil grows-trans buffering text ending w valid some (Some octets) next h.mid new (subst (IsStoppedAt grows buffering text ending w (Some octets) next h.mid new) e h.stopped);
+        cut = rw is (cut_behind h.mid here h.headed (run_cut c own some (Some octets) next grows grows-nil grows-trans buffering h.mid new fault h.stopped));
+        memory = λ e. rw is (stops_after grows grows-nil grows-trans old h.mid head here h.headed ((writes NoMemory (stop NoMemory e)).memory refl));
+        refused = λ e kept. rw is (stops_after grows grows-nil grows-trans old h.mid head here h.headed ((writes Write (stop Write e)).refused refl kept));
+        too_many = λ e. run_many c own some (Some octets) next grows grows-nil grows-trans buffering h.mid new (stop TooMany e);
+        short = λ e. run_short c own some (Some octets) next grows grows-nil grows-trans buffering h.mid new (stop ShortRecording e);
       }

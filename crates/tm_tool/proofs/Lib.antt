@@ -1,5 +1,8 @@
-pub mod Running
 pub mod Passing
+pub mod Taking
+pub mod Courses
+pub mod ListingLemmas
+pub mod Running
 pub mod Sinks
 pub mod RunEnds
 pub mod RunPieces

@@ -5,7 +5,7 @@ use Rattle.std.specs.List.{concat}
 use Rattle.std.specs.Io.KnownBytes.{Consumes, IsAtEnd}
 use Rattle.std.proofs.KnownBytes.{Consumes-nil, Consumes-trans}
 use Rattle.tm_output.specs.Records.{AreRecords}
-use Rattle.tm_tool.specs.Runs.{HasRead, HasReadAll}
+use Rattle.tm_output.specs.Records.{HasRead, HasReadAll}
 use Rattle.tm_tool.specs.code.RecordLoop.{HasPassed, PassingFails, PassingEnds}
 use Rattle.tm_output.proofs.RecordLemmas.{AreRecords-append, concat-one}
 

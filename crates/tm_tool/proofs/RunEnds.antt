@@ -1,22 +1,26 @@
--- The end of a run, after all records that it reads were taken.
-use Rattle.std.proofs.Common.{◌≡◌, ℕ, List, [], ◌++◌, length, ap, ◌∙◌, append-nil, inr, Option, Result, Ok, Err, subst, sym}
+-- How a run goes along its course, and its end, after all records that it reads were taken.
+use Rattle.std.proofs.Common.{◌≡◌, ℕ, List, [], ◌∷◌, ◌++◌, ap, subst, ◌∙◌, Option, Result, Ok, Err, IfErr, IfOk, OnOk, sym}
+use Rattle.tm_frame.specs.Layout.{record_length_of}
 use Rattle.tm_packet.specs.Merge as sequence
 use Rattle.tm_reassembly.specs.Items.{closing}
 use Rattle.tm_faults.specs.declared.run.RunFault.{RunFault}
-use Rattle.tm_faults.specs.declared.run.RunFault.TheVariants.{Write, Report, NoMemory}
 use Rattle.tm_output.specs.declared.command.Ending.{Ending}
+use Rattle.tm_output.specs.declared.totals.Totals.{Totals}
+use Rattle.tm_tool.specs.Courses.{IsStoppedAt}
 use Rattle.tm_output.specs.Faults.{RunCaused}
 use Rattle.tm_output.specs.Outputs.{Piece, View, Took, Stopped, Buffering, Written}
 use Rattle.tm_output.specs.Pieces.{Texts, noted_all, pieces_of, unclosed_pieces}
+use Rattle.tm_tool.specs.code.RecordLoop.{HasStepped, StepStopped, StillTakes, TakingStopped, ThenRefuses}
+use Rattle.tm_tool.proofs.Courses.{Along, end_stopped, has_run, records_stopped, step_stopped, then_flushed}
+use Rattle.tm_output.proofs.PieceLemmas.{took_none, took_took, took_stopped, stopped_more}
 use Rattle.tm_checkpoint.specs.Works.{Work}
-use Rattle.tm_tool.specs.RecordingPieces.{worked, record_pieces, closing_pieces, end_pieces}
-use Rattle.tm_output.specs.declared.totals.Totals.{Totals}
-use Rattle.tm_tool.specs.RunTotals.{run_totals}
-use Rattle.tm_tool.specs.Runs.{StopsAtEnd, IsStoppedAt, behind, devices_at, kept_of}
-use Rattle.tm_tool.specs.code.Stepping.{IsRun, TakesRecord, TookRecords}
-use Rattle.tm_tool.specs.code.RecordLoop.{HasStepped, TakesRecords}
-use Rattle.tm_output.proofs.PieceLemmas.{took_took, took_stopped, took_failed, stopped_more}
-use Rattle.tm_tool.proofs.Running.{IsValid, behind-counted, output_caused, stepped_records}
+use Rattle.tm_tool.specs.RecordingPieces.{closing_pieces, end_pieces, record_pieces, worked}
+use Rattle.tm_tool.specs.RunTotals.{totals_of}
+use Rattle.tm_tool.specs.Runs.{course, devices_at}
+use Rattle.tm_tool.specs.code.Stepping.{Leaves, RefusesRecord, RunState, RunHasEnded, TakesRecords}
+use Rattle.tm_tool.specs.code.Summing.{CountedRecords}
+use Rattle.tm_tool.proofs.Running.{IsValid, is_course, records-append, worked-append, worked-none}
+use Rattle.tm_tool.proofs.SummaryEnds.{counted_more, counted_none}
 
 module _ {A K : Type 0} (grows : K → K → List A → Type 0) (grows-nil : (k : K) → grows k k [])
     (grows-trans : (j k l : K) (xs ys : List A) → grows j k xs → grows k l ys → grows j l (xs ++ ys)) where
@@ -40,52 +44,68 @@ module _ {A K : Type 0} (grows : K → K → List A → Type 0) (grows-nil : (k 
       wrote_groups new (Err fault) h =
           took_stopped grows grows-nil grows-trans buffering old mid new items_end groups_end took_items fault (rw (count, noted) at h)
 
-  -- ---- the end of a run
+  -- ---- a flush behind records: they still are taken, or the last one is refused
 
-  module _ (buffering : Buffering) (text : Texts A) (ending : Ending) (w : Work) (valid : IsValid w) (first next : Option (List ℕ)) (old mid : View K)
-      (work : Work) (n : ℕ) (taken : HasStepped (TakesRecords (TakesRecord grows text)) ending w first next old mid work n)
-      (failures failures' : ℕ) (same : failures' ≡ failures) where
-    abbrev all : HasStepped (TookRecords grows text) ending w first next old mid work n
-    all = stepped_records grows grows-nil grows-trans text ending w valid first next old mid work n taken
+  module _ (buffering : Buffering) (text : Texts A) (mid new : RunState K) where
+    pub still_taken : {T : Type 0} (r : Result T RunFault) → Written grows buffering mid.view new.view [] r → new.work ≡ mid.work → new.totals ≡ mid.totals
+        → OnOk r (StillTakes (TakesRecords grows text) mid new)
+    still_taken (Ok x) none work numbers = λ before rs took. (
+      work ∙ took.0,
+      then_flushed grows grows-nil grows-trans buffering before.view mid.view new.view (record_pieces text before.work rs) took.1 (Ok x) none,
+      subst (CountedRecords (totals_of text before.work.rules) before.work rs before.totals) (sym numbers) took.2,
+    )
+    still_taken (Err fault) stopped work numbers = tt
 
-    abbrev last : List (Piece A)
-    last = end_pieces text ending (worked w (behind w all.read)) (length all.rest)
+    pub then_refused : {T : Type 0} (r : Result T RunFault) → Written grows buffering mid.view new.view [] r
+        → IfErr r (ThenRefuses (TakesRecords grows text) (RefusesRecord grows text buffering) mid new)
+    then_refused (Ok x) none = tt
+    then_refused {T} (Err fault) stopped = λ before one took.
+        let ps : List (Piece A) = record_pieces text before.work (one ∷ []) in
+        step_stopped grows buffering before.work.state.records before.view new.view ps fault
+        (then_flushed grows grows-nil grows-trans buffering {T = T} before.view mid.view new.view ps took.1 (Err fault) stopped)
 
-    end_same : end_pieces text ending work n ≡ last
-    end_same =
-        ap (λ (x : Work). end_pieces text ending x n) all.work ∙ ap (λ (m : ℕ). end_pieces text ending (worked w (behind w all.read)) m) (sym all.left)
+  -- ---- a run goes along its course
 
-    at_end : (new : View K) (fault : RunFault) → Stopped grows buffering mid new (end_pieces text ending work n) fault
-        → StopsAtEnd grows buffering text ending w first next old new fault × RunCaused failures failures' old new fault
-    at_end new fault h =
-        let stopped = subst (λ (ps : List (Piece A)). Stopped grows buffering mid new ps fault) end_same h in (
-          record { read = all.read; rest = all.rest; passed = all.passed; ended = all.ended; mid = mid; took = all.took; stopped = stopped },
-          output_caused failures failures' old mid new fault same all.took.counts h.cause,
-        )
+  module _ (buffering : Buffering) (text : Texts A) (ending : Ending) (old : RunState K) (valid : IsValid old.work) where
+    along : Along grows buffering (course text ending old.work) (TakesRecords grows text) (RefusesRecord grows text buffering)
+        (λ (s : RunState K). s.view) (λ (s : RunState K). s.work.state.records) old
+    along = record {
+      is = is_course text ending old.work valid;
+      none = (
+        sym (worked-none old.work valid),
+        subst (Took grows old.view old.view) (sym (is_course text ending old.work valid).none) (took_none grows grows-nil grows-trans old.view),
+        counted_none (totals_of text old.work.rules) old.work old.totals,
+      );
+      more = λ rs one mid new a b. (
+        b.0 ∙ ap (λ (w : Work). worked w (one ∷ [])) a.0 ∙ sym (worked-append old.work valid rs (one ∷ [])),
+        subst (Took grows old.view new.view) (sym (records-append old.work valid text rs (one ∷ [])))
+            (took_took grows grows-nil grows-trans old.view mid.view new.view _ _ a.1
+            (subst (λ (w : Work). Took grows mid.view new.view (record_pieces text w (one ∷ []))) a.0 b.1)),
+        counted_more old.work valid (totals_of text old.work.rules) rs one old.totals mid.totals new.totals a.2
+            (subst (λ (w : Work). CountedRecords (totals_of text w.rules) w (one ∷ []) mid.totals new.totals) a.0 b.2),
+      );
+      took = λ rs new t. t.1;
+      stopped = λ rs one mid new fault a stop.
+          subst (λ (w : Work). StepStopped grows buffering mid.work.state.records mid.view new.view (record_pieces text w (one ∷ [])) fault) a.0 stop;
+    }
 
-    -- writing stopped at a piece of the ending
-    pub end_stopped : (new : View K) (fault : RunFault) → Stopped grows buffering mid new (end_pieces text ending work n) fault
-        → IsStoppedAt grows buffering text ending w first next old new fault × RunCaused failures failures' old new fault
-    end_stopped new Write h = let stop = at_end new Write h in (inr stop.0, stop.1)
-    end_stopped new Report h = let stop = at_end new Report h in (inr stop.0, stop.1)
-    end_stopped new NoMemory h = let stop = at_end new NoMemory h in (inr stop.0, stop.1)
-    end_stopped new _ h = absurd h.cause
+    module _ (first next : Option (List ℕ)) (failures failures' : ℕ) where
+      -- it stopped at a record, or before
+      pub run_stopped : (new : RunState K) (fault : RunFault)
+          → TakingStopped (TakesRecords grows text) (record_length_of old.work.rules.layout) old.work.state.records (RefusesRecord grows text buffering)
+          (λ (s : RunState K). s.work.state.records) ending first next failures failures' old new fault
+          → IsStoppedAt grows buffering (course text ending old.work) first next old.view new.view fault × RunCaused failures failures' old.view new.view fault
+      run_stopped new = records_stopped grows grows-nil grows-trans buffering _ _ _ _ _ old along first next failures failures' new
 
-    module _ (ended : View K) (took_end : Took grows mid ended (end_pieces text ending work n)) where
-      -- nothing was left to write, and a flush failed
-      pub stopped_flush : (new : View K) (fault : RunFault) → Stopped grows buffering ended new [] fault
-          → IsStoppedAt grows buffering text ending w first next old new fault × RunCaused failures failures' old new fault
-      stopped_flush new fault h =
-          end_stopped new fault (took_failed grows grows-nil grows-trans buffering mid ended new (end_pieces text ending work n) fault took_end h)
-
-      -- all was written, and passed on
-      pub has_run : (new : View K) (done : ℕ) (kept : Option Work) (totals : Totals) → Took grows ended new [] → done ≡ work.state.records
-          → kept ≡ kept_of ending work → totals ≡ run_totals text ending w (behind w taken.read) (length taken.rest)
-          → IsRun grows buffering text ending w (devices_at first failures old) (devices_at next failures' new) done kept totals
-      has_run new done kept totals h number is totals_is =
-          let took_end_all = took_took grows grows-nil grows-trans mid ended new (end_pieces text ending work n) [] took_end h in
-          let took_last = subst (Took grows mid new) (append-nil (end_pieces text ending work n) ∙ end_same) took_end_all in
-          let took = took_took grows grows-nil grows-trans old mid new (record_pieces text w (behind w all.read)) last all.took took_last in
-          let count_is = number ∙ ap (λ (x : Work). x.state.records) all.work ∙ behind-counted w all.read all.passed in
-          let kept_is = is ∙ ap (kept_of ending) all.work in
-          record { read = all.read; rest = all.rest; passed = all.passed; ended = all.ended; count_is = count_is; kept_is = kept_is; took = took; totals_is = totals_is }
+      -- all was taken, and then the ending's pieces were written, and flushed; or writing stopped in them
+      pub run_ended : (mid : RunState K) (octets : ℕ) (new : View K) (left : Work) (r : Result Totals RunFault)
+          → HasStepped (TakesRecords grows text) (record_length_of old.work.rules.layout) old.work.state.records ending first next old mid left.state.records octets
+          → failures' ≡ failures → Written grows buffering mid.view new (end_pieces text ending mid.work octets) r
+          → IfOk r (λ totals. (rs : List (List ℕ)) → TakesRecords grows text old rs mid → Leaves text ending old.work left totals left.state.records rs octets)
+          → RunHasEnded text ending old.work left grows buffering (devices_at first failures old.view) (devices_at next failures' new) r
+      run_ended mid octets new left (Ok totals) stepped same h leaves =
+          has_run grows grows-nil grows-trans buffering _ _ _ _ _ old along first next failures failures' mid left.state.records octets stepped same
+          (end_pieces text ending mid.work octets) (λ rs a. ap (λ (x : Work). end_pieces text ending x octets) a.0) new h (Leaves text ending old.work left totals) leaves
+      run_ended mid octets new left (Err fault) stepped same h leaves =
+          end_stopped grows grows-nil grows-trans buffering _ _ _ _ _ old along first next failures failures' mid left.state.records octets stepped same
+          (end_pieces text ending mid.work octets) (λ rs a. ap (λ (x : Work). end_pieces text ending x octets) a.0) new fault h

@@ -1,6 +1,5 @@
 -- How the counting of records goes on, and how a summary ended, in the words of the octets that were read, and of the whole recording.
-use Rattle.std.proofs.lemmas.Option.{IfSome_then}
-use Rattle.std.proofs.Common.{Bool, true, false, [], ◌∷◌, ⊎_elim, ◌≡◌, ◌<◌, ◌-◌, ◌^◌, ℕ, Option, Some, None, IfSome, List, ◌++◌, length, refl, sym, ap, subst, ◌∙◌, append-nil, arith, append_assoc, drop, inl, inr}
+use Rattle.std.proofs.Common.{Bool, false, [], ◌∷◌, ◌≡◌, ◌<◌, ℕ, Option, Some, None, IfSome, List, ◌++◌, length, refl, sym, ap, subst, ◌∙◌, append-nil, arith, append_assoc, drop, inl, inr}
 use Rattle.std.specs.List.{concat}
 use Rattle.std.specs.Io.KnownBytes.{Appends, Keeps}
 use Rattle.std.proofs.KnownBytes.{Appends-kept}
@@ -9,18 +8,18 @@ use Rattle.tm_frame.specs.Rules.{Rules}
 use Rattle.tm_devices.specs.Devices.{raised}
 use Rattle.tm_faults.specs.declared.run.RunFault.{RunFault}
 use Rattle.tm_faults.specs.declared.run.RunFault.TheVariants.{Read, Write, Report, TooMany, NoMemory, ShortRecording}
-use Rattle.tm_output.specs.Outputs.{AppendsCut, Stopped, Took, View, WantsMemory, Piece, line_piece, line_pieces, octets_buffering, outs, view}
+use Rattle.tm_output.specs.Outputs.{AppendsCut, Stopped, Took, View, line_pieces, octets_buffering, outs, view}
 use Rattle.tm_output.specs.Records.{AreRecords, record_count}
-use Rattle.tm_output.proofs.LinePieces.{lines_out, same_cut}
-use Rattle.tm_output.proofs.RecordLemmas.{always, count_all, many_told, records_all, rest_all, told}
+use Rattle.tm_output.proofs.LinePieces.{lines_out, no_memory, same_cut}
+use Rattle.tm_output.proofs.RecordLemmas.{always, count_all, records_all, rest_all, told}
 use Rattle.tm_summary.specs.Lines.{summary_lines}
 use Rattle.tm_summary.specs.SummaryNumbers.{SummaryNumbers, Tally, nothing, numbers_of}
 use Rattle.tm_checkpoint.specs.Works.{new_job, Work}
 use Rattle.tm_summary.specs.Losses.{has_good_frame, tells_loss}
 use Rattle.tm_tool.specs.SummaryNumbers.{IsSummed, summary_numbers}
 use Rattle.tm_tool.specs.RunTotals.{frames_in, good_frames}
-use Rattle.tm_tool.specs.Summaries.{IsSummarized, IsSummaryStop, StopsInLines, SummaryStopped, lines_after, summary, tally_of}
-use Rattle.tm_tool.specs.code.Summing.{HasSummed, CountCaused, CountedRecords, CountingStopped, CountsEnd, CountsRecord, RefusesCount, and_end, and_records}
+use Rattle.tm_tool.specs.Summaries.{IsSummarized, IsSummaryStop, SummaryStopped, summary_course, lines_after, summary, tally_of}
+use Rattle.tm_tool.specs.code.Summing.{HasSummed, CountingState, CountedRecords, CountsEnd, CountsRecords, RefusesCount, and_end, and_records}
 use Rattle.std.proofs.lemmas.Grind.{flat_map-append}
 use Rattle.tm_frame.specs.Fault.{frame_reading_of}
 use Rattle.tm_packet.specs.Merge as sequence
@@ -40,10 +39,16 @@ use Rattle.tm_summary.specs.Tallies.{AllFit, RefusesTally, TakesTally, and_items
 use Rattle.tm_summary.proofs.Taken.{none_refused}
 use Rattle.tm_summary.proofs.Tallied.{all_counted, keys_fit, open_counted}
 use Rattle.tm_tool.specs.RecordingPieces.{items_of, worked}
-use Rattle.tm_tool.specs.Runs.{HasEnded, HasReadAll, behind}
-use Rattle.tm_tool.specs.code.RecordLoop.{HasStepped, PassingStopped, TakesRecords, TakingStopped}
+use Rattle.tm_tool.specs.Courses.{IsStoppedAt, whole}
+use Rattle.tm_output.specs.Faults.{CausedByDevice}
+use Rattle.tm_tool.specs.code.RecordLoop.{HasStepped, PassingStopped, TakesEach, TakingStopped}
+use Rattle.tm_tool.proofs.Courses.{IsCourse, all_read, run_cut, run_many}
+use Rattle.tm_output.proofs.PieceLemmas.{took_none}
+use Rattle.tm_tool.proofs.Taking.{holds_of_all}
+use Rattle.tm_frame.specs.Layout.{most_records}
+use Rattle.std.proofs.KnownBytes.{Appends-nil, Appends-trans}
 use Rattle.tm_tool.proofs.NoteLemmas.{noted_all_is}
-use Rattle.tm_tool.proofs.Running.{IsValid, behind-counted, holds_of_all, noted-append, records-counted}
+use Rattle.tm_tool.proofs.Running.{IsValid, noted-append, worked-append, worked-none}
 
 pub notes_among-append : (e : sequence.Entries) (xs ys : List Item) → notes_among e (xs ++ ys) ≡ notes_among e xs ++ notes_among (noted_all e xs) ys
 notes_among-append e [] ys = refl
@@ -74,30 +79,25 @@ pub counted_none : {N : Type 0} (numbers : Tally → N) (w : Work) (n : N) → C
 unfolding items
 counted_none numbers w n t are = are ∙ ap numbers (sym (rw (append-nil t.frames, append-nil t.items, append-nil t.notes) refl))
 
--- at a recording's end all was read
-ended_all : (w : Work) (first next : Option (List ℕ)) (read : List (List ℕ)) (rest : List ℕ) → HasEnded Close w first next read rest
-    → HasReadAll (record_length_of w.rules.layout) first next read rest
-ended_all w first next read rest (inl h) = h.0
-ended_all w first next read rest (inr h) = absurd h.2
-
 -- no record was to be passed over
 passing_no : (w : Work) (first next : Option (List ℕ)) (failures failures' : ℕ) (fault : RunFault) → w.state.records ≡ 0
-    → PassingStopped (record_length_of w.rules.layout) w.state.records first next failures failures' fault
-    → CountingStopped w first next fault × CountCaused failures failures' fault
-passing_no w first next failures failures' Read none h = absurd (omega (arith, none, h.0.few))
-passing_no w first next failures failures' ShortRecording none h = absurd (omega (arith, none, h.0.few))
-passing_no w first next failures failures' _ none h = absurd h
+    → PassingStopped (record_length_of w.rules.layout) w.state.records first next failures failures' fault → ⊥
+passing_no w first next failures failures' Read none h = omega (arith, none, h.0.few)
+passing_no w first next failures failures' ShortRecording none h = omega (arith, none, h.0.few)
+passing_no w first next failures failures' _ none h = h
 
 -- counting stopped: a read failed, or a record was one too many
-pub counting_stopped : (w : Work) (first next : Option (List ℕ)) (failures failures' : ℕ) (old new : SummaryNumbers) (fault : RunFault) → w.state.records ≡ 0
-    → TakingStopped (TakesRecords CountsRecord) RefusesCount Close w first next failures failures' old new fault
-    → CountingStopped w first next fault × CountCaused failures failures' fault
-counting_stopped w first next failures failures' old new fault none (inl h) = passing_no w first next failures failures' fault none h.0
-counting_stopped w first next failures failures' old new fault none (inr (inl h)) =
-    rw h.1 (record { read = h.0.read; part = h.0.part; octets = h.0.octets; short = h.0.short }, h.2)
-counting_stopped w first next failures failures' old new fault none (inr (inr h)) =
-    let most = sym (behind-counted w h.0.read h.0.passed) ∙ h.0.stopped.1 in
-    rw h.0.stopped.0 (record { read = h.0.read; one = h.0.one; octets = h.0.octets; exact = h.0.exact; most = most }, h.1)
+pub counting_stopped : (w : Work) (first next : Option (List ℕ)) (failures failures' : ℕ) (old new : CountingState) (fault : RunFault) → w.state.records ≡ 0
+    → TakingStopped CountsRecords (record_length_of w.rules.layout) w.state.records RefusesCount (λ (s : CountingState). s.work.state.records) Close first next failures failures' old new fault
+    → (v : View (Option (List ℕ))) → IsSummaryStop w.rules first next v v fault × CausedByDevice failures failures' v.out_failures v.out_failures fault
+counting_stopped w first next failures failures' old new fault none (inl h) v = absurd (passing_no w first next failures failures' fault none h.0)
+counting_stopped w first next failures failures' old new fault none (inr (inl h)) v =
+    let nothing_written = took_none Appends Appends-nil Appends-trans v in
+    rw h.1 ((record { read = h.0.read; part = h.0.part; octets = h.0.octets; short = h.0.short; wanted = inr tt; took = nothing_written }, refl), (h.2, refl))
+counting_stopped w first next failures failures' old new fault none (inr (inr h)) v =
+    let nothing_written = took_none Appends Appends-nil Appends-trans v in
+    let most = sym h.0.count_is ∙ h.0.stopped.1 in
+    rw h.0.stopped.0 ((record { read = h.0.read; one = h.0.one; octets = h.0.octets; exact = h.0.exact; most = most; wanted = tt; took = nothing_written }, refl), (h.1, refl))
 
 module _ (w : Work) (valid : IsValid w) where
   -- records and then more records
@@ -114,6 +114,16 @@ module _ (w : Work) (valid : IsValid w) where
       → CountedRecords numbers w rs h i → CountedRecords numbers (worked w rs) (one ∷ []) i j → CountedRecords numbers w (rs ++ one ∷ []) h j
   counted_more numbers rs one h i j a b t are = b (and_records w t rs) (a t are) ∙ ap numbers (records_joined t rs (one ∷ []))
 
+  abbrev counting_from : SummaryNumbers → CountingState
+  counting_from n = record { work = w; numbers = n }
+
+  -- and those that were taken one by one were counted
+  counted_each : (n : SummaryNumbers) (rs : List (List ℕ)) (new : CountingState) → TakesEach CountsRecords (counting_from n) rs new → CountsRecords (counting_from n) rs new
+  counted_each n = holds_of_all CountsRecords (CountsRecords (counting_from n)) (λ rs one mid new a b. (
+    b.0 ∙ ap (λ (x : Work). worked x (one ∷ [])) a.0 ∙ sym (worked-append w valid rs (one ∷ [])),
+    counted_more numbers_of rs one n mid.numbers new.numbers a.1 (subst (λ (x : Work). CountedRecords numbers_of x (one ∷ []) mid.numbers new.numbers) a.0 b.1),
+  )) (counting_from n) (sym (worked-none w valid), counted_none numbers_of w n)
+
   -- with the closed end all is counted
   end_joined : (rs : List (List ℕ)) (rest : ℕ) → and_end (worked w rs) (and_records w nothing rs) rest ≡ tally_of w rs rest
   end_joined rs rest =
@@ -121,37 +131,24 @@ module _ (w : Work) (valid : IsValid w) where
       (rw (notes_among-append w.entries (items_of w rs) (closing (worked w rs).state rest)) refl)
 
   -- so a recording that was taken whole is counted whole
-  pub summed : (first next : Option (List ℕ)) (old before now : SummaryNumbers) (v : Work) (rest count : ℕ) → w.state.records ≡ 0 → old ≡ numbers_of nothing → length w.entries ≡ 16384
-      → HasStepped (TakesRecords CountsRecord) Close w first next old before v rest → CountsEnd v before rest now → count ≡ v.state.records → HasSummed w first next now count
-  summed first next old before now v rest count none are places h end count_is =
-      let from : behind w h.read ≡ h.read = ap (λ (d : ℕ). drop d h.read) none in
-      let work : v ≡ worked w h.read = h.work ∙ ap (worked w) from in
-      let sum : before ≡ numbers_of (and_records w nothing h.read) =
-      holds_of_all CountsRecord (CountedRecords numbers_of w) w (counted_more numbers_of) (counted_none numbers_of w) (behind w h.read) old before h.took nothing are
-      ∙ ap (λ (rs : List (List ℕ)). numbers_of (and_records w nothing rs)) from in
-      let left : v.entries ≡ noted_all w.entries (items_of w h.read) = ap (λ (x : Work). x.entries) work in
-      let size : length v.entries ≡ 16384 =
+  pub summed : (first next : Option (List ℕ)) (n : SummaryNumbers) (before : CountingState) (now : SummaryNumbers) (rest count : ℕ) → w.state.records ≡ 0 → n ≡ numbers_of nothing
+      → length w.entries ≡ 16384 → HasStepped CountsRecords (record_length_of w.rules.layout) w.state.records Close first next (counting_from n) before before.work.state.records rest
+      → CountsEnd before.work before.numbers rest now → count ≡ before.work.state.records → HasSummed w first next now count
+  summed first next n before now rest count none are places h end count_is =
+      let from : drop w.state.records h.read ≡ h.read = ap (λ (d : ℕ). drop d h.read) none in
+      let (on, numbers) = counted_each n (drop w.state.records h.read) before h.took in
+      let work : before.work ≡ worked w h.read = on ∙ ap (worked w) from in
+      let sum : before.numbers ≡ numbers_of (and_records w nothing h.read) =
+      numbers nothing are ∙ ap (λ (rs : List (List ℕ)). numbers_of (and_records w nothing rs)) from in
+      let left : before.work.entries ≡ noted_all w.entries (items_of w h.read) = ap (λ (x : Work). x.entries) work in
+      let size : length before.work.entries ≡ 16384 =
       ap length (left ∙ noted_all_is w.entries (items_of w h.read)) ∙ length-after_from 0 w.entries _ ∙ places in
-      let on : (x : Work) (n : ℕ) → x ≡ worked w h.read → n ≡ rest → numbers_of (and_end x (and_records w nothing h.read) rest) ≡ numbers_of (tally_of w h.read n) =
-      λ x n is same. rw (is, same) (ap numbers_of (end_joined h.read rest)) in
-      let all = ended_all w first next h.read h.rest h.ended in
-      let counted = end (and_records w nothing h.read) sum (omega (arith, size)) ∙ on v (length h.rest) work h.left in
-      let number = count_is ∙ ap (λ (x : Work). x.state.records) work ∙ records-counted w h.read in
-      record { read = h.read; rest = h.rest; all = all; counted = counted; count_is = number }
+      let all : (x : Work) (m : ℕ) → x ≡ worked w h.read → m ≡ rest → numbers_of (and_end x (and_records w nothing h.read) rest) ≡ numbers_of (tally_of w h.read m) =
+      λ x m is same. rw (is, same) (ap numbers_of (end_joined h.read rest)) in
+      let counted = end (and_records w nothing h.read) sum (omega (arith, size)) ∙ all before.work (length h.rest) work h.left in
+      record { read = h.read; rest = h.rest; all = all_read w.state.records h.ended; counted = counted; count_is = count_is ∙ h.count_is }
 
 -- ---- the lines
-
--- no line has a text for the report
-line_report : (ls : List (List ℕ)) (done : List (Piece ℕ)) (next : Piece ℕ) (more : List (Piece ℕ)) → line_pieces ls ≡ done ++ next ∷ more → next.report ≡ []
-line_report [] [] next more e = absurd (cc)
-line_report [] (d ∷ done) next more e = absurd (cc)
-line_report (l ∷ ls) [] next more e = let same : line_piece l ≡ next = cc in ap (λ (p : Piece ℕ). p.report) (sym same)
-line_report (l ∷ ls) (d ∷ done) next more e = line_report ls done next more (cc)
-
--- so none takes memory
-no_memory : {old new : View (Option (List ℕ))} (ls : List (List ℕ)) → WantsMemory Appends octets_buffering old new (line_pieces ls) → ⊥
-no_memory ls wants =
-    ⊎_elim (λ made. let made_is : false ≡ true = made.0 in cc) (λ (some : wants.next.report ≡ [] → ⊥). some (line_report ls wants.done wants.next wants.more wants.split)) wants.stopped.1
 
 module _ (rules : Rules) where
   -- the lines of a recording that was read whole
@@ -173,7 +170,7 @@ module _ (rules : Rules) where
     sums = subst (λ (x : Work). HasSummed x first next numbers count) is h
 
     counted : count ≡ length sums.read
-    counted = omega (arith, sums.count_is)
+    counted = sums.count_is
 
     lines_are : (chosen : List Bool) → chosen ≡ rules.channels → summary_lines chosen count numbers ≡ lines_after rules sums.read (length sums.rest)
     lines_are chosen same =
@@ -189,7 +186,7 @@ module _ (rules : Rules) where
         let lines = subst
         (λ (ls : List (List ℕ)). Stopped Appends octets_buffering (view old None failures 0) (view new None failures' 0) (line_pieces ls) Write)
         (lines_are chosen same) stopped in
-        record { read = sums.read; rest = sums.rest; all = sums.all; stopped = lines }
+        record { read = sums.read; rest = sums.rest; passed = omega arith; ended = inl (sums.all, tt); mid = _; took = took_none Appends Appends-nil Appends-trans _; stopped = lines }
     lines_stopped chosen same old new failures failures' NoMemory stopped = absurd (no_memory (summary_lines chosen count numbers) (stopped.memory refl))
     lines_stopped chosen same old new failures failures' Report stopped = let no : 0 ≡ raised 0 = stopped.cause.1 in cc
     lines_stopped chosen same old new failures failures' _ stopped = absurd stopped.cause
@@ -228,29 +225,34 @@ module _ (rules : Rules) where
     summary_told old new count h =
         told _ h.read first next h.octets (λ left end. rw (end h.ended, append-nil h.read) (h.written, h.count_is))
 
-    module _ (old new : View (Option (List ℕ))) where
-      lines_told : (fault : RunFault) → StopsInLines rules first next old new fault
-          → IfSome first (λ octets. Stopped Appends octets_buffering old new (line_pieces (summary rules octets)) fault)
-      lines_told fault h =
-          told _ (concat h.read ++ h.rest) first next h.all.octets.octets (λ left end.
-          rw (end h.all.ended, append-nil (concat h.read ++ h.rest), summary_read h.read h.rest h.all.octets.sized h.all.short) h.stopped)
+  pub is_course : IsCourse (summary_course rules)
+  is_course = record { none = refl; more = λ rs one. refl; enough = λ done count no. absurd no }
 
-      pub cut_told : (fault : RunFault) → IsSummaryStop rules first next old new fault → IfSome first (λ octets. AppendsCut Appends old new (line_pieces (summary rules octets)))
-      cut_told Read h = always first (λ octets. same_cut old new _ h.1)
-      cut_told Write h = IfSome_then first (lines_told Write h) (λ octets s. s.cut)
-      cut_told TooMany h = always first (λ octets. same_cut old new _ h.1)
-      cut_told NoMemory h = always first (λ octets. same_cut old new _ h.1)
-      cut_told _ h = absurd h
+  lines_whole : (octets : List ℕ) → line_pieces (summary rules octets) ≡ whole (summary_course rules) octets
+  unfolding summary
+  lines_whole octets = refl
 
-      most_told : 0 < record_length_of rules.layout → IsSummaryStop rules first next old new TooMany → IfSome first (λ octets. 2 ^ 32 - 1 < record_count (record_length_of rules.layout) octets)
-      most_told some h = many_told (record_length_of rules.layout) first next h.0.read h.0.one some h.0.octets h.0.exact h.0.most
+  module _ (some : 0 < record_length_of rules.layout) (first next : Option (List ℕ)) (old new : View (Option (List ℕ))) where
+    cut_of : (fault : RunFault) → IsStoppedAt Appends octets_buffering (summary_course rules) first next old new fault
+        → IfSome first (λ octets. AppendsCut Appends old new (whole (summary_course rules) octets))
+    cut_of = run_cut (summary_course rules) is_course some first next Appends Appends-nil Appends-trans octets_buffering old new
+
+    pub cut_told : (fault : RunFault) → IsSummaryStop rules first next old new fault → IfSome first (λ octets. AppendsCut Appends old new (whole (summary_course rules) octets))
+    cut_told Read h = cut_of Read h.0
+    cut_told Write h = cut_of Write (inr h)
+    cut_told TooMany h = cut_of TooMany h.0
+    cut_told NoMemory h = always first (λ octets. same_cut old new (whole (summary_course rules) octets) h.1)
+    cut_told _ h = absurd h
+
+    pub most_told : IsSummaryStop rules first next old new TooMany → IfSome first (λ octets. most_records < record_count (record_length_of rules.layout) octets)
+    most_told h = run_many (summary_course rules) is_course some first next Appends Appends-nil Appends-trans octets_buffering old new h.0
 
 -- what a fault says of it
 pub stop_told : (rules : Rules) → 0 < record_length_of rules.layout → (first next : Option (List ℕ)) (old new : View (Option (List ℕ))) (fault : RunFault) → IsSummaryStop rules first next old new fault
     → IfSome first (SummaryStopped rules old new fault)
 stop_told rules some None next old new fault h = tt
 stop_told rules some (Some octets) next old new fault h = record {
-  cut = cut_told rules (Some octets) next old new fault h;
+  cut = rw (lines_whole rules octets) (cut_told rules some (Some octets) next old new fault h);
   memory = λ e. let stop : IsSummaryStop rules (Some octets) next old new NoMemory = subst (IsSummaryStop rules (Some octets) next old new) e h in stop.1;
-  too_many = λ e. most_told rules (Some octets) next old new some (subst (IsSummaryStop rules (Some octets) next old new) e h);
+  too_many = λ e. most_told rules some (Some octets) next old new (subst (IsSummaryStop rules (Some octets) next old new) e h);
 }

@@ -1,3 +1,6 @@
+pub mod Courses
+pub mod Endings
+pub mod Listing
 pub mod RecordingPieces
 pub mod HeadPieces
 pub mod RunTotals

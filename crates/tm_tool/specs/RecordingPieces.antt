@@ -1,5 +1,5 @@
 -- The pieces of a recording, from where a job has got: those of its records, and of its ending.
-use Rattle.std.specs.Prelude.{ℕ, List, [], ◌++◌, length, take, drop}
+use Rattle.std.specs.Prelude.{ℕ, List, [], ◌++◌, length, drop}
 use Rattle.tm_frame.specs.Layout.{record_length_of}
 use Rattle.tm_packet.specs.Merge as sequence
 use Rattle.tm_items.specs.Item.{Item}
@@ -8,6 +8,7 @@ use Rattle.tm_reassembly.specs.Recording.{items, after}
 use Rattle.tm_checkpoint.specs.Works.{Work}
 use Rattle.tm_output.specs.declared.command.Ending.{Ending}
 use Rattle.tm_output.specs.declared.command.Ending.TheVariants.{Close, Keep, StopAfter}
+pub use Rattle.tm_tool.specs.Endings.{records_for}
 use Rattle.tm_output.specs.Outputs.{Piece}
 use Rattle.tm_output.specs.Pieces.{Texts, noted_all, pieces_of, unclosed_pieces}
 use Rattle.tm_output.specs.Records.{records, rest_of}
@@ -24,12 +25,6 @@ worked w rs = record {
 }
 
 -- ---- endings
-
--- an ending takes so many of the records that follow those that are done, or all
-abbrev pub records_for : {X : Type 0} → Ending → List X → List X
-records_for Close rs = rs
-records_for Keep rs = rs
-records_for (StopAfter n) rs = take n rs
 
 -- the records of a recording that follow those that are done
 abbrev pub further : Work → List ℕ → List (List ℕ)

@@ -1,5 +1,5 @@
 -- A summary of a recording: what it counts, its lines, and what was read and written when it ended.
-use Rattle.std.specs.Prelude.{◌≡◌, ◌<◌, ℕ, List, ◌++◌, length, Option}
+use Rattle.std.specs.Prelude.{◌≡◌, ◌<◌, ℕ, List, [], ◌++◌, length, Option}
 use Rattle.std.specs.List.{concat}
 use Rattle.std.specs.Io.KnownBytes.{Appends, Consumes, IsAtEnd}
 use Rattle.tm_frame.specs.Layout.{most_records, record_length_of}
@@ -8,7 +8,8 @@ use Rattle.tm_items.specs.Item.{Item}
 use Rattle.tm_reassembly.specs.Items.{closing}
 use Rattle.tm_faults.specs.declared.run.RunFault.{RunFault}
 use Rattle.tm_faults.specs.declared.run.RunFault.TheVariants.{Read, Write, Report, ShortRecording, TooMany, NoMemory}
-use Rattle.tm_output.specs.Outputs.{AppendsCut, Stopped, View, line_pieces, octets_buffering}
+use Rattle.tm_tool.specs.Courses.{RecordCourse, StopsAtEnd, StopsAtRead, StopsAtTooMany}
+use Rattle.tm_output.specs.Outputs.{AppendsCut, View, line_pieces, octets_buffering}
 use Rattle.tm_output.specs.Records.{record_count, records, rest_of}
 use Rattle.tm_summary.specs.Lines.{summary_lines}
 use Rattle.tm_summary.specs.SummaryNumbers.{Tally, numbers_of}
@@ -16,7 +17,6 @@ use Rattle.tm_checkpoint.specs.Works.{new_job, Work}
 use Rattle.tm_output.specs.declared.command.Ending.TheVariants.{Close}
 use Rattle.tm_tool.specs.RecordingPieces.{items_of, worked}
 use Rattle.tm_tool.specs.RunTotals.{run_tally}
-use Rattle.tm_tool.specs.Runs.{HasRead, HasReadAll}
 
 -- the items of records and of the closed end behind them, where so many octets are left
 abbrev pub closed_items : Work → List (List ℕ) → ℕ → List Item
@@ -46,36 +46,27 @@ module _ (rules : Rules) (left_old left_new : Option (List ℕ)) where
     pub written : Appends old new (concat (summary rules read))
     pub count_is : count ≡ record_count (record_length_of rules.layout) read
 
-  -- a read failed in a record
-  pub record StopsInReading : Type 0 where
-    pub read : List (List ℕ)
-    pub part : List ℕ
-    pub octets : HasRead (record_length_of rules.layout) left_old left_new read part
-    pub short : length part < record_length_of rules.layout
+-- what a summary writes: its lines, behind all records
+abbrev pub summary_course : Rules → RecordCourse ℕ
+summary_course rules = record {
+  ending = Close;
+  size = record_length_of rules.layout;
+  done = 0;
+  pieces = λ rs. [];
+  next = λ rs one. [];
+  at_end = λ rs rest. line_pieces (lines_after rules rs rest);
+}
 
-  -- a whole record followed the greatest number of records
-  pub record StopsAtMost : Type 0 where
-    pub read : List (List ℕ)
-    pub one : List ℕ
-    pub octets : HasRead (record_length_of rules.layout) left_old left_new read one
-    pub exact : length one ≡ record_length_of rules.layout
-    pub most : length read ≡ most_records
-
-  -- all was read, and writing stopped at one place of the lines, or a flush failed behind them
-  pub record StopsInLines (old new : View (Option (List ℕ))) (fault : RunFault) : Type 0 where
-    pub read : List (List ℕ)
-    pub rest : List ℕ
-    pub all : HasReadAll (record_length_of rules.layout) left_old left_new read rest
-    pub stopped : Stopped Appends octets_buffering old new (line_pieces (lines_after rules read (length rest))) fault
-
-  -- where a fault leaves the devices: nothing is written before all is read, no line takes memory, and without memory nothing is read
-  abbrev pub IsSummaryStop : View (Option (List ℕ)) → View (Option (List ℕ)) → RunFault → Type 0
-  IsSummaryStop old new Read = StopsInReading × (new ≡ old)
-  IsSummaryStop old new Write = StopsInLines old new Write
-  IsSummaryStop old new Report = ⊥
-  IsSummaryStop old new ShortRecording = ⊥
-  IsSummaryStop old new TooMany = StopsAtMost × (new ≡ old)
-  IsSummaryStop old new NoMemory = (left_new ≡ left_old) × (new ≡ old)
+-- where a fault leaves the devices: nothing is written before all is read, no line takes memory, and without memory nothing is read
+abbrev pub IsSummaryStop : Rules → Option (List ℕ) → Option (List ℕ) → View (Option (List ℕ)) → View (Option (List ℕ)) → RunFault → Type 0
+IsSummaryStop rules left_old left_new old new Read =
+    StopsAtRead Appends octets_buffering (summary_course rules) left_old left_new old new × (new ≡ old)
+IsSummaryStop rules left_old left_new old new Write = StopsAtEnd Appends octets_buffering (summary_course rules) left_old left_new old new Write
+IsSummaryStop rules left_old left_new old new Report = ⊥
+IsSummaryStop rules left_old left_new old new ShortRecording = ⊥
+IsSummaryStop rules left_old left_new old new TooMany =
+    StopsAtTooMany Appends octets_buffering (summary_course rules) left_old left_new old new × (new ≡ old)
+IsSummaryStop rules left_old left_new old new NoMemory = (left_new ≡ left_old) × (new ≡ old)
 
 -- What a fault says of a recording that tells its octets. There is one place up to which the lines of its summary were written;
 -- without memory nothing was; and it has more records than can be counted.

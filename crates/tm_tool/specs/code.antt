@@ -1,5 +1,7 @@
-pub mod Stepping
 pub mod RecordLoop
+pub mod Next
+pub mod Listed
+pub mod Stepping
 pub mod Summing
 pub mod Heads
 pub mod Extractors

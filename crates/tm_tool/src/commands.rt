@@ -1,23 +1,23 @@
 //! What each command does with a recording.
 
-ghost use Rattle.std.specs.Prelude.{◌≡◌, ◌≢◌, [], true, IfErr, IfOk, OnOk};
+ghost use Rattle.std.specs.Prelude.{◌≡◌, ◌≢◌, [], true, IfErr, OnOk};
 ghost use Rattle.std.specs.Io.KnownBytes.{Appends, Keeps};
 ghost use Rattle.tm_output.specs.declared.command.Command.TheVariants.{Extract, Packets};
 ghost use Rattle.tm_tool.specs.HeadPieces.{head_pieces};
 ghost use Rattle.tm_tool.specs.code.Extractors.{IsReady, work_in};
 ghost use Rattle.tm_tool.specs.code.Heads.{HeadStopped, head_text};
 ghost use Rattle.tm_output.specs.Pieces.{buffering_of, text_of};
-ghost use Rattle.tm_tool.specs.Runs.{DevicesCounted, IsStop, devices, kept_of};
-ghost use Rattle.tm_tool.specs.code.Stepping.{IsRun};
+ghost use Rattle.tm_tool.specs.Runs.{devices};
+ghost use Rattle.tm_tool.specs.code.Stepping.{RunHasEnded};
 
 use crate::extractor::Extractor;
 use crate::recording::run_into;
 use crate::{BufferedSource, Command, Drain, Ending, RunFault};
 use std::alloc::Global;
 use tm_devices::write_all;
-use tm_fields::Rows;
+use tm_fields::{RowForm, Rows};
 use tm_lines::LineBuffer;
-use tm_output::{PacketLines, PacketOctets, PacketRows, PacketTexts, Totals};
+use tm_output::{BinaryPackets, PacketLines, PacketOctets, PacketRows, PacketTexts, Totals};
 
 /// Writes the head of the command's rows, where that is due, and flushes it if the recording may wait.
 pub fn write_csv_head<W: Drain>(
@@ -69,17 +69,9 @@ pub(crate) fn run_command<R: BufferedSource, W: Drain, V: Drain>(
     requires ready { IsReady extractor.old }
     ensures same_out { W.fixed out.new ≡ W.fixed out.old }
     ensures same_report { V.fixed report.new ≡ V.fixed report.old }
-    ensures run { IfOk result (IsRun Appends (buffering_of command.entry) (text_of command.entry) ending (work_in extractor.old)
-        (devices R.BufferedSource W.Drain V.Drain recording.old out.old report.old)
-        (devices R.BufferedSource W.Drain V.Drain recording.new out.new report.new)
-        extractor.new.reassembly.state.records (kept_of ending (work_in extractor.new))) }
     ensures ready { OnOk result (IsReady extractor.new) }
-    ensures stopped { IfErr result (IsStop Appends (buffering_of command.entry) (text_of command.entry) ending
-        (work_in extractor.old)
-        (devices R.BufferedSource W.Drain V.Drain recording.old out.old report.old)
-        (devices R.BufferedSource W.Drain V.Drain recording.new out.new report.new)) }
-    ensures counts { DevicesCounted
-        (devices R.BufferedSource W.Drain V.Drain recording.old out.old report.old)
+    ensures runs { RunHasEnded (text_of command.entry) ending (work_in extractor.old) (work_in extractor.new)
+        Appends (buffering_of command.entry) (devices R.BufferedSource W.Drain V.Drain recording.old out.old report.old)
         (devices R.BufferedSource W.Drain V.Drain recording.new out.new report.new) result }
     ensures flushed_out { OnOk result (Keeps (W.flushed out.new) (W.written out.new)) }
     ensures flushed_report { OnOk result (Keeps (V.flushed report.new) (V.written report.new)) }
@@ -100,8 +92,24 @@ pub(crate) fn run_command<R: BufferedSource, W: Drain, V: Drain>(
             };
             run_into(extractor, recording, &mut outlet, report, ending)
         }
+        Command::BinaryPackets => {
+            let mut outlet = PacketTexts {
+                out,
+                text: BinaryPackets,
+            };
+            run_into(extractor, recording, &mut outlet, report, ending)
+        }
         Command::Fields(definition, application) => {
-            let mut rows = Rows::new(extractor.alloc, definition);
+            let mut rows = Rows::new(extractor.alloc, definition, RowForm::Text);
+            let mut outlet = PacketRows {
+                rows: &mut rows,
+                application,
+                out,
+            };
+            run_into(extractor, recording, &mut outlet, report, ending)
+        }
+        Command::BinaryFields(definition, application) => {
+            let mut rows = Rows::new(extractor.alloc, definition, RowForm::Binary);
             let mut outlet = PacketRows {
                 rows: &mut rows,
                 application,

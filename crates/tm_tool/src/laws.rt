@@ -3,6 +3,7 @@
 ghost use Rattle.std.specs.List.{concat};
 ghost use Rattle.std.specs.Io.KnownBytes.{Appends};
 ghost use Rattle.std.specs.Prelude.{◌≡◌, ◌<◌, ◌≤◌, ◌+◌, ◌*◌, ◌^◌, ℕ, true, false, Ok, List, [], ◌++◌, length, Option, IfSome};
+ghost use Rattle.tm_frame.specs.declared.layout.LayoutParts.{LayoutParts};
 ghost use Rattle.tm_frame.specs.Layout.{record_length_of};
 ghost use Rattle.tm_frame.specs.Rules.{IsLimit, Rules, chooses};
 ghost use Rattle.tm_packet.specs.Merge as sequence;
@@ -15,6 +16,7 @@ ghost use Rattle.tm_checkpoint.specs.Checkpoints.{kept_in, resumed, spelled_in, 
 ghost use Rattle.tm_checkpoint.specs.declared.version.Version.{Version};
 ghost use Rattle.tm_checkpoint.specs.declared.version.Version.TheVariants as version;
 ghost use Rattle.tm_tool.specs.HeadPieces.{head_pieces};
+ghost use Rattle.tm_tool.specs.Listing.{IsListed, IsListingStop, ListingStopped, listing};
 ghost use Rattle.tm_tool.specs.NotesInAll.{pieces_with, sent_among};
 ghost use Rattle.tm_tool.specs.OlderVersions.{LacksGapLine};
 ghost use Rattle.tm_tool.specs.LostGaps.{AllTell, lost_gaps, older_count, run_pieces_without_gaps};
@@ -57,6 +59,20 @@ pub fn whole_recordings()
     ensures split_stopped { (ending : Ending) (w : Work) (old new : Devices (Option (ℕ → List ℕ)))
         (fault : RunFault) → IsSoundWork w → IsStop Shelves shelf_buffering shelf_text ending w old new fault →
         IfSome old.left (StoppedIn Shelves shelf_buffering shelf_text ending w [] old.outputs new.outputs fault) }
+{}
+
+/// Lists of recordings that tell their octets: what `list_frames` promises of the octets that were read holds for the whole recording. With
+/// `Ok` exactly its lines were written, and the answer is the number of its whole records. After a fault there is one place up to which its
+/// lines were written.
+pub fn listings()
+    ensures listed { (layout : LayoutParts) (left_old left_new out_old out_new : Option (List ℕ)) (count : ℕ)
+        → 0 < record_length_of layout →
+        IsListed layout left_old left_new out_old out_new count →
+        IfSome left_old (λ octets. Appends out_old out_new (concat (listing layout octets))
+        × (count ≡ record_count (record_length_of layout) octets)) }
+    ensures stopped { (layout : LayoutParts) (left_old left_new : Option (List ℕ)) (old new : View (Option (List ℕ)))
+        (fault : RunFault) → 0 < record_length_of layout →
+        IsListingStop layout left_old left_new old new fault → IfSome left_old (ListingStopped layout old new fault) }
 {}
 
 /// Joining: the pieces of two lists of records, one after the other, are those of the first, and then those of the second from

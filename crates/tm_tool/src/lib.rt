@@ -6,16 +6,18 @@ mod commands;
 mod extractor;
 mod job;
 pub mod laws;
+mod listing;
 mod record_loop;
 mod recording;
 mod summary;
 
 pub use job::{Done, Job, run, split};
+pub use listing::{Listed, list_behind, list_frames, list_recording};
 pub use summary::{Summed, sum_up, summarize};
 pub use tm_bits::Octets;
 pub use tm_devices::{
     Buffered, BufferedSource, DeviceFailed, Drain, Reading, Seeking, Shelf, Source, Writing,
 };
 pub use tm_faults::{CheckpointFault, NoMemory, RunFault};
-pub use tm_output::{Command, Ending, Listed, Totals, list_frames, list_recording};
+pub use tm_output::{Command, Ending, Totals};
 pub use tm_settings::{Key, Settings, SettingsFault};

@@ -1,67 +1,76 @@
-//! The records of a recording, one by one into what takes them.
+//! The loop over the records of a recording, whatever takes them.
 
-ghost use Rattle.std.specs.Prelude.{◌≡◌, ◌<◌, ◌∷◌, [], ℕ, true, false, List, length, None, IfOk, IfErr, IfSome, OnOk};
-ghost use Rattle.tm_frame.specs.Layout.{record_length_of};
-ghost use Rattle.tm_reassembly.specs.Steps.{most_records};
+ghost use Rattle.std.specs.Prelude.{◌≡◌, ◌<◌, ◌+◌, ◌∷◌, [], ℕ, true, false, List, length, None, IfOk, IfErr, IfSome, OnOk};
 ghost use Rattle.tm_faults.specs.declared.run.RunFault.{RunFault};
-ghost use Rattle.tm_packet.specs.Merge.{Entries};
-ghost use Rattle.tm_checkpoint.specs.Works.{IsGoing, Work, work_of};
-ghost use Rattle.tm_tool.specs.RecordingPieces.{worked};
-ghost use Rattle.tm_tool.specs.Runs.{WantsFurther};
-ghost use Rattle.tm_tool.specs.code.RecordLoop.{Enough, HasPassed, HasStepped, NextStopped, PassesRecords, PassingStopped, StillTakes, TakesRecords, TakingStopped, ThenRefuses, TookNext};
-ghost use Rattle.tm_output.specs.code.Next.{EndsNext};
+ghost use Rattle.tm_tool.specs.Endings.{WantsFurther};
+ghost use Rattle.tm_tool.specs.code.Next.{EndsNext, ReadsNext};
+ghost use Rattle.tm_tool.specs.code.RecordLoop.{Enough, HasPassed, HasStepped, NextStopped, PassesRecords, PassingStopped, Refusing, StillTakes, Taking, TakingStopped, ThenRefuses};
 
 use crate::{BufferedSource, Ending, RunFault};
 use tm_devices::{fill, may_wait_for};
-use tm_reassembly::Reassembly;
 
-// Takes records one by one: a sink of a reassembly's items, and what is done beside.
+/// Takes the records of a recording, one by one.
 pub(crate) trait RecordHandler {
-    // What is known of what it holds.
-    ghost Held: { Type 0 };
+    /// What goes on from record to record.
+    type Progress;
 
-    // What no call changes.
+    /// What is known of both: how far they have got, and what was written.
+    ghost Known: { Type 0 };
+
+    /// What no call changes.
     ghost Fixed: { Type 0 };
 
-    ghost held: { Self → Self.Held };
+    ghost known: { Self.Progress → Self → Self.Known };
 
-    ghost fixed: { Self → Self.Fixed };
+    ghost fixed: { Self.Progress → Self → Self.Fixed };
 
-    ghost entries: { Self → Entries };
+    /// So many octets are a record.
+    ghost size: { Self.Fixed → ℕ };
 
-    // A record behind this work may be taken, and this is held then.
-    ghost takes: { Self.Fixed → Work → List ℕ → Self.Held → Self.Held → Type 0 };
+    /// So many records are done.
+    ghost count: { Self.Known → ℕ };
 
-    // It may be refused with this fault, and this is held then.
-    ghost refuses: { Self.Fixed → Work → List ℕ → Self.Held → Self.Held → RunFault → Type 0 };
+    /// A further record may be taken.
+    ghost ready: { Self.Progress → Type 0 };
 
-    // All that was written was flushed.
+    /// What records that are taken, one after the other, make of what is known.
+    ghost takes: { Self.Fixed → Taking Self.Known };
+
+    /// And a record that is refused with a fault.
+    ghost refuses: { Self.Fixed → Refusing Self.Known };
+
+    /// All that was written was flushed.
     ghost flushed: { Self → Type 0 };
 
-    // Takes a record.
-    fn handle_record(&mut self, reassembly: &mut Reassembly, octets: &[u8]) -> Result<(), RunFault>
-        requires exact { length octets.now ≡ record_length_of reassembly.old.rules.layout }
-        requires going { IsGoing reassembly.old }
-        ensures same { Self.fixed self.new ≡ Self.fixed self.old }
-        ensures work { OnOk result (work_of reassembly.new (Self.entries self.new)
-            ≡ worked (work_of reassembly.old (Self.entries self.old)) (octets.now ∷ [])) }
-        ensures going_on { OnOk result (IsGoing reassembly.new) }
-        ensures few { OnOk result (reassembly.old.state.records < most_records) }
-        ensures accepted { OnOk result (Self.takes (Self.fixed self.old)
-            (work_of reassembly.old (Self.entries self.old)) octets.now
-            (Self.held self.old) (Self.held self.new)) }
-        ensures refused { IfErr result (Self.refuses (Self.fixed self.old)
-            (work_of reassembly.old (Self.entries self.old)) octets.now
-            (Self.held self.old) (Self.held self.new)) };
+    /// The number of records that are done.
+    fn records(&self, progress: &Self::Progress) -> u32
+        ensures { result ≡ count (known progress.now self.now) };
 
-    // Flushes all that was written. If that fails, the last record counts as refused.
-    fn flush_all(&mut self) -> Result<(), RunFault>
-        ensures same { Self.fixed self.new ≡ Self.fixed self.old }
-        ensures entries { Self.entries self.new ≡ Self.entries self.old }
-        ensures flushed { OnOk result (Self.flushed self.new) }
-        ensures accepted { OnOk result (StillTakes (Self.takes (Self.fixed self.old)) (Self.held self.old) (Self.held self.new)) }
-        ensures refused { IfErr result (ThenRefuses (Self.takes (Self.fixed self.old)) (Self.refuses (Self.fixed self.old))
-            (Self.held self.old) (Self.held self.new)) };
+    /// Takes a record.
+    fn handle_record(
+        &mut self,
+        progress: &mut Self::Progress,
+        octets: &[u8],
+    ) -> Result<(), RunFault>
+        requires exact { length octets.now ≡ size (fixed progress.old self.old) }
+        requires ready { ready progress.old }
+        ensures same { fixed progress.new self.new ≡ fixed progress.old self.old }
+        ensures ready { OnOk result (ready progress.new) }
+        ensures counted { OnOk result (count (known progress.new self.new) ≡ count (known progress.old self.old) + 1) }
+        ensures taken { OnOk result (takes (fixed progress.old self.old) (known progress.old self.old) (octets.now ∷ [])
+            (known progress.new self.new)) }
+        ensures refused { IfErr result (refuses (fixed progress.old self.old) (known progress.old self.old) octets.now
+            (known progress.new self.new)) };
+
+    /// Flushes all that was written. The record that was taken last still is taken, or it is refused.
+    fn flush_all(&mut self, progress: &Self::Progress) -> Result<(), RunFault>
+        ensures same { fixed progress.now self.new ≡ fixed progress.now self.old }
+        ensures counted { OnOk result (count (known progress.now self.new) ≡ count (known progress.now self.old)) }
+        ensures flushed { OnOk result (flushed self.new) }
+        ensures taken { OnOk result (StillTakes (takes (fixed progress.now self.old)) (known progress.now self.old)
+            (known progress.now self.new)) }
+        ensures refused { IfErr result (ThenRefuses (takes (fixed progress.now self.old))
+            (refuses (fixed progress.now self.old)) (known progress.now self.old) (known progress.now self.new)) };
 }
 
 // Passes over the records that are done in one step, where the recording can do so, and answers whether it did.
@@ -128,96 +137,86 @@ fn wants_more(ending: Ending, done: u32, records: u32) -> bool
 // Takes the next record: where it is at hand as it stands there, else through this buffer. What was written is flushed where the recording may
 // wait for the record behind it. Answers how many octets are left where it is no whole one.
 fn handle_next<R: BufferedSource, K: RecordHandler>(
-    reassembly: &mut Reassembly,
+    progress: &mut K::Progress,
     buffer: &mut [u8],
     recording: &mut R,
     handler: &mut K,
 ) -> Result<Option<usize>, RunFault>
-    requires exact { length buffer.old ≡ record_length_of reassembly.old.rules.layout }
-    requires going { IsGoing reassembly.old }
-    ensures same { K.fixed handler.new ≡ K.fixed handler.old }
+    requires exact { length buffer.old ≡ K.size (K.fixed progress.old handler.old) }
+    requires ready { K.ready progress.old }
+    ensures same { K.fixed progress.new handler.new ≡ K.fixed progress.old handler.old }
     ensures exact { length buffer.new ≡ length buffer.old }
-    ensures took { IfOk result (λ found. found ≡ None → IsGoing reassembly.new × (reassembly.old.state.records < most_records)
-        × TookNext (K.takes (K.fixed handler.old)) (work_of reassembly.old (K.entries handler.old)) (R.left recording.old)
-        (R.left recording.new)
-        (K.held handler.old) (K.held handler.new) (work_of reassembly.new (K.entries handler.new))) }
+    ensures ready { OnOk result (K.ready progress.new) }
+    ensures counted { IfOk result (λ found. found ≡ None → K.count (K.known progress.new handler.new) ≡ K.count (K.known progress.old handler.old) + 1) }
+    ensures took { IfOk result (λ found. found ≡ None → ReadsNext (length buffer.old) (R.left recording.old) (R.left recording.new) (λ one.
+        K.takes (K.fixed progress.old handler.old) (K.known progress.old handler.old) (one ∷ []) (K.known progress.new handler.new))) }
     ensures flushed { IfOk result (λ found. found ≡ None → R.waits recording.new ≡ true
         → length (R.at_hand recording.new) < length buffer.new → K.flushed handler.new) }
-    ensures ended { IfOk result (λ found. IfSome found (λ count. (reassembly.new ≡ reassembly.old) × (handler.new ≡ handler.old)
+    ensures ended { IfOk result (λ found. IfSome found (λ count. (progress.new ≡ progress.old) × (handler.new ≡ handler.old)
         × EndsNext (length buffer.old) (R.left recording.old) (R.left recording.new) count)) }
     ensures counts { OnOk result (R.failures recording.new ≡ R.failures recording.old) }
-    ensures stopped { IfErr result (NextStopped (K.refuses (K.fixed handler.old)) (work_of reassembly.old (K.entries handler.old))
-        (R.left recording.old) (R.left recording.new) (R.failures recording.old) (R.failures recording.new) (K.held handler.old)
-        (K.held handler.new)) }
+    ensures stopped { IfErr result (NextStopped (K.refuses (K.fixed progress.old handler.old)) (length buffer.old) (R.left recording.old)
+        (R.left recording.new) (R.failures recording.old) (R.failures recording.new) (K.known progress.old handler.old) (K.known progress.new handler.new)) }
 {
     let size = buffer.len();
     if size <= recording.at_hand().len() {
-        let accepted = handler.handle_record(reassembly, &recording.at_hand()[..size]);
+        let taken = handler.handle_record(progress, &recording.at_hand()[..size]);
         recording.consume(size);
-        if let Err(fault) = accepted {
+        if let Err(fault) = taken {
             return Err(fault);
         }
-        if !may_wait_for(recording, size) {
-            return Ok(None);
-        }
-        return match handler.flush_all() {
-            Ok(()) => Ok(None),
-            Err(fault) => Err(fault),
+    } else {
+        let Ok(octets) = fill(recording, buffer) else {
+            return Err(RunFault::Read);
         };
-    }
-    let Ok(octets) = fill(recording, buffer) else {
-        return Err(RunFault::Read);
-    };
-    if octets < size {
-        return Ok(Some(octets));
-    }
-    if let Err(fault) = handler.handle_record(reassembly, &buffer[..octets]) {
-        return Err(fault);
+        if octets < size {
+            return Ok(Some(octets));
+        }
+        if let Err(fault) = handler.handle_record(progress, buffer) {
+            return Err(fault);
+        }
     }
     if !may_wait_for(recording, size) {
         return Ok(None);
     }
-    match handler.flush_all() {
+    match handler.flush_all(progress) {
         Ok(()) => Ok(None),
         Err(fault) => Err(fault),
     }
 }
 
-// Takes the records that the ending wants, one at a time through this buffer, behind those that are done. Answers how many octets are
-// left then, of a record that is no whole one.
+/// Takes the records that the ending wants, one at a time through this buffer, behind those that are done. Answers how many octets are
+/// left then, of a record that is no whole one.
 pub(crate) fn handle_records<R: BufferedSource, K: RecordHandler>(
-    reassembly: &mut Reassembly,
+    progress: &mut K::Progress,
     buffer: &mut [u8],
     recording: &mut R,
     handler: &mut K,
     ending: Ending,
 ) -> Result<usize, RunFault>
-    requires exact { length buffer.old ≡ record_length_of reassembly.old.rules.layout }
+    requires exact { length buffer.old ≡ K.size (K.fixed progress.old handler.old) }
     requires some { 0 < length buffer.old }
-    requires going { IsGoing reassembly.old }
-    ensures same { K.fixed handler.new ≡ K.fixed handler.old }
-    ensures going_on { OnOk result (IsGoing reassembly.new × (reassembly.new.rules ≡ reassembly.old.rules)) }
-    ensures short { IfOk result (λ octets. octets < record_length_of reassembly.old.rules.layout) }
-    ensures stepped { IfOk result (HasStepped (TakesRecords (K.takes (K.fixed handler.old))) ending
-        (work_of reassembly.old (K.entries handler.old))
-        (R.left recording.old) (R.left recording.new) (K.held handler.old) (K.held handler.new)
-        (work_of reassembly.new (K.entries handler.new))) }
+    requires ready { K.ready progress.old }
+    ensures same { K.fixed progress.new handler.new ≡ K.fixed progress.old handler.old }
+    ensures exact { length buffer.new ≡ length buffer.old }
+    ensures ready { OnOk result (K.ready progress.new) }
+    ensures short { IfOk result (λ octets. octets < length buffer.old) }
+    ensures stepped { IfOk result (HasStepped (K.takes (K.fixed progress.old handler.old)) (length buffer.old) (K.count (K.known progress.old handler.old)) ending
+        (R.left recording.old) (R.left recording.new) (K.known progress.old handler.old) (K.known progress.new handler.new) (K.count (K.known progress.new handler.new))) }
     ensures counts { OnOk result (R.failures recording.new ≡ R.failures recording.old) }
-    ensures stopped { IfErr result (TakingStopped (TakesRecords (K.takes (K.fixed handler.old)))
-        (K.refuses (K.fixed handler.old)) ending
-        (work_of reassembly.old (K.entries handler.old))
-        (R.left recording.old) (R.left recording.new) (R.failures recording.old) (R.failures recording.new) (K.held handler.old)
-        (K.held handler.new)) }
+    ensures stopped { IfErr result (TakingStopped (K.takes (K.fixed progress.old handler.old)) (length buffer.old) (K.count (K.known progress.old handler.old))
+        (K.refuses (K.fixed progress.old handler.old)) K.count ending (R.left recording.old) (R.left recording.new)
+        (R.failures recording.old) (R.failures recording.new) (K.known progress.old handler.old) (K.known progress.new handler.new)) }
 {
-    let done = reassembly.records();
+    let done = handler.records(progress);
     if let Err(fault) = skip_records(done, buffer, recording) {
         return Err(fault);
     }
     loop {
-        if !wants_more(ending, done, reassembly.records()) {
+        if !wants_more(ending, done, handler.records(progress)) {
             return Ok(0);
         }
-        match handle_next(reassembly, buffer, recording, handler) {
+        match handle_next(progress, buffer, recording, handler) {
             Ok(None) => {}
             Ok(Some(octets)) => return Ok(octets),
             Err(fault) => return Err(fault),

@@ -1,16 +1,16 @@
 //! A recording, record by record, into the outputs.
 
-ghost use Rattle.std.specs.Prelude.{◌≡◌, ◌<◌, [], false, length, IfErr, IfOk, OnOk};
+ghost use Rattle.std.specs.Prelude.{◌≡◌, ◌<◌, [], false, length, OnOk};
 ghost use Rattle.std.specs.Io.KnownBytes.{Keeps};
 ghost use Rattle.tm_frame.specs.Layout.{record_length_of};
 ghost use Rattle.tm_reassembly.specs.Items.{closing};
 ghost use Rattle.tm_output.specs.Outputs.{Written};
 ghost use Rattle.tm_tool.specs.RecordingPieces.{closing_pieces, end_pieces};
 ghost use Rattle.tm_output.specs.Pieces.{noted_all, pieces_of};
-ghost use Rattle.tm_tool.specs.Runs.{DevicesCounted, IsStop, kept_of};
+ghost use Rattle.tm_tool.specs.Runs.{kept_of};
 ghost use Rattle.tm_checkpoint.specs.Works.{IsGoing, work_of};
 ghost use Rattle.tm_tool.specs.code.Extractors.{IsReady, work_in};
-ghost use Rattle.tm_tool.specs.code.Stepping.{IsRun, outlet_devices, output_devices, with_end};
+ghost use Rattle.tm_tool.specs.code.Stepping.{RunHasEnded, outlet_devices, output_devices, with_end};
 ghost use Rattle.tm_output.specs.Totals.{no_totals};
 ghost use Rattle.tm_tool.specs.RunTotals.{absent_channels, is_absent};
 ghost use Rattle.tm_output.specs.Seen.{fixture, output_both};
@@ -22,31 +22,36 @@ use tm_output::{Outlet, Output, Totals};
 use tm_reassembly::{Reassembly, StepFault};
 
 impl<O: Outlet, V: Drain> RecordHandler for Output<'_, O, V> {
-    ghost use Rattle.tm_output.specs.Seen.{Fixture};
-    ghost use Rattle.tm_tool.specs.code.Stepping.{CountsTaken, RefusesCounted, RunState, run_state};
+    ghost use Rattle.tm_tool.specs.code.Stepping.{RefusesRecord, RunFixture, RunState, TakesRecords, run_fixture, run_state};
 
-    ghost Held = { RunState O.Held };
+    type Progress = Reassembly;
 
-    ghost Fixed = { Fixture O.Fixed };
+    ghost Known = { RunState O.Held };
 
-    ghost held = { run_state O.Outlet V.Drain };
+    ghost Fixed = { RunFixture O.Fixed };
 
-    ghost fixed = { fixture O.Outlet V.Drain };
+    ghost known = { run_state O.Outlet V.Drain };
 
-    ghost entries = { λ output. output.tracker.now };
+    ghost fixed = { run_fixture O.Outlet V.Drain };
 
-    ghost takes = { λ f. CountsTaken O.grows (O.text f.texts) };
+    ghost size = { λ f. record_length_of f.rules.layout };
 
-    ghost refuses = { λ f. RefusesCounted O.grows (O.text f.texts) O.buffering };
+    ghost count = { λ known. known.work.state.records };
+
+    ghost ready = { IsGoing };
+
+    ghost takes = { λ f. TakesRecords O.grows (O.text f.output.texts) };
+
+    ghost refuses = { λ f. RefusesRecord O.grows (O.text f.output.texts) O.buffering };
 
     ghost flushed = { λ output. O.passed output.outlet.now × Keeps (V.flushed output.report.now) (V.written output.report.now) };
 
-    fn handle_record(
-        &mut self,
-        reassembly: &mut Reassembly,
-        octets: &[u8],
-    ) -> Result<(), RunFault> {
-        match reassembly.step_record(octets, self) {
+    fn records(&self, progress: &Reassembly) -> u32 {
+        progress.records()
+    }
+
+    fn handle_record(&mut self, progress: &mut Reassembly, octets: &[u8]) -> Result<(), RunFault> {
+        match progress.step_record(octets, self) {
             Ok(chosen) => {
                 self.totals.add_record(chosen);
                 Ok(())
@@ -57,7 +62,7 @@ impl<O: Outlet, V: Drain> RecordHandler for Output<'_, O, V> {
         }
     }
 
-    fn flush_all(&mut self) -> Result<(), RunFault> {
+    fn flush_all(&mut self, _progress: &Reassembly) -> Result<(), RunFault> {
         self.flush()
     }
 }
@@ -117,14 +122,14 @@ fn absent_channels(reassembly: &Reassembly) -> [bool; 8]
     ]
 }
 
-// Takes what the ending reads of the recording, ends it, and flushes.
+// Takes what the ending reads of the recording, ends it, and flushes. Answers what was given and lost, in numbers.
 fn handle_recording<R: BufferedSource, O: Outlet, V: Drain>(
     reassembly: &mut Reassembly,
     buffer: &mut [u8],
     recording: &mut R,
     output: &mut Output<'_, O, V>,
     ending: Ending,
-) -> Result<(), RunFault>
+) -> Result<Totals, RunFault>
     requires exact { length buffer.old ≡ record_length_of reassembly.old.rules.layout }
     requires some { 0 < length buffer.old }
     requires going { IsGoing reassembly.old }
@@ -132,16 +137,8 @@ fn handle_recording<R: BufferedSource, O: Outlet, V: Drain>(
     ensures same { fixture O.Outlet V.Drain output.new ≡ fixture O.Outlet V.Drain output.old }
     ensures exact { length buffer.new ≡ length buffer.old }
     ensures going_on { OnOk result (IsGoing reassembly.new × (reassembly.new.rules ≡ reassembly.old.rules)) }
-    ensures run { OnOk result (IsRun O.grows O.buffering (O.text (O.fixed output.old.outlet.now)) ending
-        (work_of reassembly.old output.old.tracker.now)
-        (output_devices R.BufferedSource O.Outlet V.Drain recording.old output.old)
-        (output_devices R.BufferedSource O.Outlet V.Drain recording.new output.new)
-        reassembly.new.state.records (kept_of ending (work_of reassembly.new output.new.tracker.now)) output.new.totals) }
-    ensures stopped { IfErr result (IsStop O.grows O.buffering (O.text (O.fixed output.old.outlet.now)) ending
-        (work_of reassembly.old output.old.tracker.now)
-        (output_devices R.BufferedSource O.Outlet V.Drain recording.old output.old)
-        (output_devices R.BufferedSource O.Outlet V.Drain recording.new output.new)) }
-    ensures counts { DevicesCounted
+    ensures runs { RunHasEnded (O.text (O.fixed output.old.outlet.now)) ending (work_of reassembly.old output.old.tracker.now)
+        (work_of reassembly.new output.new.tracker.now) O.grows O.buffering
         (output_devices R.BufferedSource O.Outlet V.Drain recording.old output.old)
         (output_devices R.BufferedSource O.Outlet V.Drain recording.new output.new) result }
     ensures flushed_out { OnOk result (O.passed output.new.outlet.now) }
@@ -158,7 +155,7 @@ fn handle_recording<R: BufferedSource, O: Outlet, V: Drain>(
         return Err(fault);
     }
     output.totals.absent = absent_channels(reassembly);
-    Ok(())
+    Ok(output.totals)
 }
 
 /// Runs over a recording by a job's extractor, into an outlet and a report. Answers what was given and lost, in numbers.
@@ -171,15 +168,8 @@ pub(crate) fn run_into<R: BufferedSource, O: Outlet, V: Drain>(
 ) -> Result<Totals, RunFault>
     requires ready { IsReady extractor.old }
     ensures ready { OnOk result (IsReady extractor.new) }
-    ensures run { IfOk result (IsRun O.grows O.buffering (O.text (O.fixed outlet.old)) ending (work_in extractor.old)
-        (outlet_devices R.BufferedSource O.Outlet V.Drain recording.old outlet.old report.old)
-        (outlet_devices R.BufferedSource O.Outlet V.Drain recording.new outlet.new report.new)
-        extractor.new.reassembly.state.records (kept_of ending (work_in extractor.new))) }
-    ensures stopped { IfErr result (IsStop O.grows O.buffering (O.text (O.fixed outlet.old)) ending (work_in extractor.old)
-        (outlet_devices R.BufferedSource O.Outlet V.Drain recording.old outlet.old report.old)
-        (outlet_devices R.BufferedSource O.Outlet V.Drain recording.new outlet.new report.new)) }
-    ensures counts { DevicesCounted
-        (outlet_devices R.BufferedSource O.Outlet V.Drain recording.old outlet.old report.old)
+    ensures runs { RunHasEnded (O.text (O.fixed outlet.old)) ending (work_in extractor.old) (work_in extractor.new)
+        O.grows O.buffering (outlet_devices R.BufferedSource O.Outlet V.Drain recording.old outlet.old report.old)
         (outlet_devices R.BufferedSource O.Outlet V.Drain recording.new outlet.new report.new) result }
     ensures same_out { O.fixed outlet.new ≡ O.fixed outlet.old }
     ensures same_report { V.fixed report.new ≡ V.fixed report.old }
@@ -200,14 +190,11 @@ pub(crate) fn run_into<R: BufferedSource, O: Outlet, V: Drain>(
         report,
         totals: Totals::none(),
     };
-    match handle_recording(
+    handle_recording(
         reassembly,
         buffer.as_mut_slice(),
         recording,
         &mut output,
         ending,
-    ) {
-        Ok(()) => Ok(output.totals),
-        Err(fault) => Err(fault),
-    }
+    )
 }

@@ -11,7 +11,7 @@ ghost use Rattle.tm_tool.specs.Summaries.{IsSummarized, IsSummaryStop};
 ghost use Rattle.tm_tool.specs.SummaryNumbers.{IsSummed};
 ghost use Rattle.tm_checkpoint.specs.Works.{IsGoing, work_of};
 ghost use Rattle.tm_tool.specs.code.Extractors.{IsReady, work_in};
-ghost use Rattle.tm_tool.specs.code.Summing.{CountCounted, CountingStopped, CountsEnd, HasSummed};
+ghost use Rattle.tm_tool.specs.code.Summing.{CountsEnd, SumsUp};
 
 use crate::extractor::Extractor;
 use crate::job::Job;
@@ -25,34 +25,39 @@ use tm_summary::{Counting, Counts, write_summary};
 
 impl RecordHandler for Counting<'_> {
     ghost use Rattle.std.specs.Prelude.{⊤};
-    ghost use Rattle.tm_summary.specs.SummaryNumbers.{SummaryNumbers};
-    ghost use Rattle.tm_tool.specs.code.Summing.{CountingNames, CountsRecord, RefusesCount};
+    ghost use Rattle.tm_tool.specs.code.Summing.{CountingNames, CountingState, CountsRecords, RefusesCount, counting_names, counting_state};
 
-    ghost Held = { SummaryNumbers };
+    type Progress = Reassembly;
+
+    ghost Known = { CountingState };
 
     ghost Fixed = { CountingNames };
 
-    ghost held = { λ counting. counting.counts.now };
+    ghost known = { counting_state };
 
-    ghost fixed = { λ counting. record { tracker = counting.tracker.ghost_name; counts = counting.counts.ghost_name } };
+    ghost fixed = { counting_names };
 
-    ghost entries = { λ counting. counting.tracker.now };
+    ghost size = { λ f. record_length_of f.rules.layout };
 
-    ghost takes = { λ _. CountsRecord };
+    ghost count = { λ known. known.work.state.records };
+
+    ghost ready = { IsGoing };
+
+    ghost takes = { λ _. CountsRecords };
 
     ghost refuses = { λ _. RefusesCount };
 
     ghost flushed = { λ _. ⊤ };
 
+    fn records(&self, progress: &Reassembly) -> u32 {
+        progress.records()
+    }
+
     // Counts a record, and its frame where it is a good one.
-    fn handle_record(
-        &mut self,
-        reassembly: &mut Reassembly,
-        octets: &[u8],
-    ) -> Result<(), RunFault> {
-        let layout = reassembly.layout();
+    fn handle_record(&mut self, progress: &mut Reassembly, octets: &[u8]) -> Result<(), RunFault> {
+        let layout = progress.layout();
         self.bad = false;
-        match reassembly.step(octets, self) {
+        match progress.step(octets, self) {
             Ok(()) => {}
             Err(StepFault::TooMany) => return Err(RunFault::TooMany),
             Err(StepFault::Failed) => unreachable!(),
@@ -67,7 +72,7 @@ impl RecordHandler for Counting<'_> {
     }
 
     // Nothing is written before the recording's end.
-    fn flush_all(&mut self) -> Result<(), RunFault> {
+    fn flush_all(&mut self, _progress: &Reassembly) -> Result<(), RunFault> {
         Ok(())
     }
 }
@@ -97,9 +102,8 @@ fn count_into<R: BufferedSource>(
     requires first { extractor.old.reassembly.state.records ≡ 0 }
     requires none { counts.old ≡ numbers_of nothing }
     requires places { length extractor.old.tracker ≡ 16384 }
-    ensures counted { IfOk result (HasSummed (work_in extractor.old) (R.left recording.old) (R.left recording.new) counts.new) }
-    ensures stopped { IfErr result (CountingStopped (work_in extractor.old) (R.left recording.old) (R.left recording.new)) }
-    ensures counts { CountCounted (R.failures recording.old) (R.failures recording.new) result }
+    ensures sums { SumsUp (work_in extractor.old) (R.left recording.old) (R.left recording.new) (R.failures recording.old)
+        (R.failures recording.new) counts.new result }
 {
     let Extractor {
         reassembly,

@@ -1,5 +1,6 @@
 -- The first of a plan's files that would be written over another file of the plan, by their names and by what these stand for; and its fault.
 use Rattle.std.specs.Prelude.{ℕ, List, Option, Some, None, if◌then◌else◌, option_map}
+use Rattle.std.specs.Option.{option_or}
 use Rattle.tm_faults.specs.declared.run.RunFault.TheVariants as run
 use Rattle.tm_file_identity.specs.FileIdentities.{clash_at}
 use Rattle.tm_file_identity.specs.declared.identities.FileIdentities.{FileIdentities}
@@ -12,42 +13,29 @@ use Rattle.tm_faults.specs.declared.program.ToolFault.{ToolFault}
 use Rattle.tm_faults.specs.declared.program.ToolFault.TheVariants as tool
 use Rattle.tm_arguments.specs.declared.request.Plan.{Plan}
 
--- the first of two
-abbrev pub first_place : Option Place → Option Place → Option Place
-first_place None next = next
-first_place (Some place) next = Some place
-
-abbrev pub first_clash : Option Clash → Option Clash → Option Clash
-first_clash None next = next
-first_clash (Some clash) next = Some clash
-
--- over which file the file at a place would be written: by its name, or by what its name stands for
+-- over which file the file of this name at a place would be written: by its name, or by what its name stands for
 abbrev pub place_over : Plan → FileIdentities → Place → List ℕ → Option Place
-place_over p s written name = first_place (named_over p name written) (clash_at s written)
+place_over p s written name = option_or (named_over p name written) (clash_at s written)
 
 -- the clash of a file with the one over which it would be written
 abbrev pub clash_with : Place → Place → Clash
 clash_with written over = record { written = written; over = over }
 
-abbrev pub clash_over : Plan → FileIdentities → Place → List ℕ → Option Clash
-clash_over p s written name = option_map (clash_with written) (place_over p s written name)
-
--- that of the checkpoint's file, or of the file beside it
-abbrev pub checkpoint_clash : Plan → FileIdentities → Option (List ℕ) → Option Clash
-checkpoint_clash p s None = None
-checkpoint_clash p s (Some name) = first_clash (clash_over p s Checkpoint name) (clash_over p s TemporaryCheckpoint (temporary_checkpoint name))
-
--- that of the report's file
-abbrev pub report_clash : Plan → FileIdentities → Option (List ℕ) → Option Clash
-report_clash p s None = None
-report_clash p s (Some name) = clash_over p s Report name
+-- that of the file at a place, where there is one
+abbrev pub clash_over : Plan → FileIdentities → Place → Option (List ℕ) → Option Clash
+clash_over p s written None = None
+clash_over p s written (Some name) = option_map (clash_with written) (place_over p s written name)
 
 -- that of standard output, where the plan writes to it
 abbrev pub output_clash : Plan → FileIdentities → Option Clash
 output_clash p s = if writes_output p.action then option_map (clash_with Output) (clash_at s Output) else None
 
+-- the first of all: that of the checkpoint, of the file beside it, of the report, and of standard output
 abbrev pub clash_of : Plan → FileIdentities → Option Clash
-clash_of p s = first_clash (checkpoint_clash p s p.checkpoint) (first_clash (report_clash p s p.report) (output_clash p s))
+clash_of p s =
+    option_or (option_or (option_or (clash_over p s Checkpoint p.checkpoint)
+    (clash_over p s TemporaryCheckpoint (option_map temporary_checkpoint p.checkpoint)))
+    (clash_over p s Report p.report)) (output_clash p s)
 
 -- the fault of a file that would be written: it names the file, and only standard output has no name
 abbrev pub fault_of_file : Option (List ℕ) → ToolFault

@@ -1,8 +1,6 @@
 -- What a plan decides of files and streams.
 use Rattle.std.specs.Prelude.{◌≡◌, ◌≢◌, ◌⊎◌, ℕ, Bool, true, false, List, Option, None, Some, is_some}
 use Rattle.tm_faults.specs.declared.run.RunFault.TheVariants as run
-use Rattle.tm_files.specs.declared.decisions.Destination.{Destination}
-use Rattle.tm_files.specs.declared.decisions.Destination.TheVariants as destination
 use Rattle.tm_files.specs.declared.decisions.ReportTarget.{ReportTarget}
 use Rattle.tm_files.specs.declared.decisions.ReportTarget.TheVariants as opening
 use Rattle.tm_files.specs.declared.decisions.Recording.{Recording}
@@ -26,11 +24,6 @@ abbrev pub IsReportTarget : Plan → ReportTarget → Type 0
 IsReportTarget p (opening.New name) = (p.report ≡ Some name.now) × (p.resume ≡ None)
 IsReportTarget p (opening.Append name) = (p.report ≡ Some name.now) × (is_some p.resume ≡ true)
 IsReportTarget p opening.Errors = p.report ≡ None
-
--- packets go to files of the plan's folder if and only if it splits, and are appended to if and only if a job is resumed
-abbrev pub IsDestination : Plan → Destination → Type 0
-IsDestination p (destination.Folder dir goes_on) = (p.action ≡ Split) × (p.dir ≡ Some dir.now) × (goes_on ≡ is_some p.resume)
-IsDestination p destination.Output = p.action ≡ Split → p.dir ≡ None
 
 -- packets or frames go to standard output
 abbrev pub writes_output : Action → Bool

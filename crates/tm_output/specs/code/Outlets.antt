@@ -4,15 +4,17 @@ use Rattle.std.specs.Io.KnownBytes.{Appends}
 use Rattle.std.specs.List.{flat_map}
 use Rattle.std.proofs.Common.{sym, ap, ◌∙◌, append_assoc}
 use Rattle.tm_fields.specs.declared.field.Field.{Field}
+use Rattle.tm_fields.specs.declared.rows.RowForm.{RowForm}
+use Rattle.tm_fields.specs.declared.rows.RowForm.TheVariants.{Text, Binary}
 use Rattle.tm_items.specs.Item.{Item, Bad, MasterGap, Gap, Vca, Dropped, Packet, Short}
 use Rattle.tm_items.specs.Fronts.{octets_of, placed}
 use Rattle.tm_devices.specs.Devices.{raised}
 use Rattle.tm_output.specs.declared.command.Command.{Command}
-use Rattle.tm_output.specs.declared.command.Command.TheVariants.{Extract, Packets, Fields}
+use Rattle.tm_output.specs.declared.command.Command.TheVariants.{Extract, Packets, Fields, BinaryPackets, BinaryFields}
 use Rattle.tm_items.specs.Among.{is_packet_item}
 use Rattle.tm_output.specs.FieldRows.{has_row, tabled, too_short}
 use Rattle.tm_output.specs.Outputs.{PutsPart, Buffering}
-use Rattle.tm_output.specs.Pieces.{HasLine, Texts, listed, packet_octets, rows_text, text_of}
+use Rattle.tm_output.specs.Pieces.{HasLine, Texts, binary_packet, listed, packet_octets, rows_text, text_of}
 use Rattle.tm_faults.specs.declared.run.RunFault.{RunFault}
 use Rattle.tm_faults.specs.declared.run.RunFault.TheVariants.{Read, Write, Report, ShortRecording, TooMany, NoMemory}
 
@@ -54,15 +56,25 @@ listed_none (Dropped seen channel first place octets reason) has = refl
 listed_none (Packet seen channel first place octets) has = absurd has
 listed_none (Short seen octets) has = refl
 
-tabled_none : (fields : List Field) (application : ℕ) (x : Item) → HasLine x → tabled fields application x ≡ []
+pub binary_none : (x : Item) → HasLine x → binary_packet x ≡ []
+unfolding binary_packet
+binary_none (Bad seen fault) has = refl
+binary_none (MasterGap seen expected found missing) has = refl
+binary_none (Gap seen channel expected found missing) has = refl
+binary_none (Vca seen channel) has = refl
+binary_none (Dropped seen channel first place octets reason) has = refl
+binary_none (Packet seen channel first place octets) has = absurd has
+binary_none (Short seen octets) has = refl
+
+tabled_none : (form : RowForm) (fields : List Field) (application : ℕ) (x : Item) → HasLine x → tabled form fields application x ≡ []
 unfolding tabled
-tabled_none fields application (Bad seen fault) has = refl
-tabled_none fields application (MasterGap seen expected found missing) has = refl
-tabled_none fields application (Gap seen channel expected found missing) has = refl
-tabled_none fields application (Vca seen channel) has = refl
-tabled_none fields application (Dropped seen channel first place octets reason) has = refl
-tabled_none fields application (Packet seen channel first place octets) has = absurd has
-tabled_none fields application (Short seen octets) has = refl
+tabled_none form fields application (Bad seen fault) has = refl
+tabled_none form fields application (MasterGap seen expected found missing) has = refl
+tabled_none form fields application (Gap seen channel expected found missing) has = refl
+tabled_none form fields application (Vca seen channel) has = refl
+tabled_none form fields application (Dropped seen channel first place octets reason) has = refl
+tabled_none form fields application (Packet seen channel first place octets) has = absurd has
+tabled_none form fields application (Short seen octets) has = refl
 
 too_short_none : (fields : List Field) (application : ℕ) (x : Item) → HasLine x → too_short fields application x ≡ []
 unfolding too_short
@@ -79,13 +91,15 @@ unfolding has_row
 row_none fields application (Packet seen channel first place octets) has = absurd has
 row_none fields application _ has = refl
 
-pub no_row : (fields : List Field) (application : ℕ) (x : Item) → HasLine x → GivesNone (rows_text fields application) x
-no_row fields application x has = (tabled_none fields application x has, too_short_none fields application x has, row_none fields application x has)
+pub no_row : (form : RowForm) (fields : List Field) (application : ℕ) (x : Item) → HasLine x → GivesNone (rows_text form fields application) x
+no_row form fields application x has = (tabled_none form fields application x has, too_short_none fields application x has, row_none fields application x has)
 
 pub no_text : (command : Command) (x : Item) → HasLine x → GivesNone (text_of command) x
 no_text Extract x has = (octets_none x has, refl, packet_none x has)
 no_text Packets x has = (listed_none x has, refl, packet_none x has)
-no_text (Fields definition application) x has = no_row definition.now application x has
+no_text (Fields definition application) x has = no_row Text definition.now application x has
+no_text BinaryPackets x has = (binary_none x has, refl, packet_none x has)
+no_text (BinaryFields definition application) x has = no_row Binary definition.now application x has
 
 -- packets that lie end to end give the octets in which they lie
 pub octets_joined : (seen channel place : ℕ) (packets : List (List ℕ)) → flat_map packet_octets (placed seen channel place packets) ≡ octets_of packets

@@ -3,10 +3,9 @@ use Rattle.std.specs.Prelude.{◌≡◌, ◌+◌, ℕ, List, length, Option, Som
 use Rattle.tm_checkpoint.specs.Checkpoints.{checkpoint_of}
 use Rattle.tm_files.specs.declared.files.Replaced.{Replaced}
 use Rattle.tm_files.specs.code.Replacements.{replaced_octets}
-use Rattle.tm_checkpoint.specs.Works.{JobState, Work}
-use Rattle.tm_fields.specs.declared.field.Field.{Field}
+use Rattle.tm_checkpoint.specs.Works.{Work}
 use Rattle.tm_output.specs.Pieces.{Texts}
-use Rattle.tm_program.specs.Found.{IsOfList, IsOfSummary, ending_of, texts_for, totals_over, work_from}
+use Rattle.tm_program.specs.Found.{IsOfList, IsOfSummary, ending_of, totals_over, work_from}
 use Rattle.tm_program.specs.declared.outcome.Found.{Found}
 use Rattle.tm_program.specs.declared.outcome.Found.TheVariants as found
 use Rattle.tm_tool.specs.RecordingPieces.{records_for, further, worked}
@@ -14,10 +13,14 @@ use Rattle.tm_tool.specs.Runs.{IsEnough, kept_of}
 use Rattle.tm_tool.specs.declared.job.Done.{Done}
 use Rattle.tm_settings.specs.Settings.{Rules}
 use Rattle.tm_output.specs.declared.command.Ending.{Ending}
-use Rattle.tm_output.specs.Listing.{IsListing}
+use Rattle.tm_tool.specs.Listing.{IsListing}
 use Rattle.tm_tool.specs.SummaryNumbers.{IsSummed}
-use Rattle.tm_arguments.specs.declared.request.Action.{Action}
-use Rattle.tm_arguments.specs.declared.request.Action.TheVariants.{Summary}
+use Rattle.tm_program.specs.code.Tasks.{texts_of}
+use Rattle.tm_program.specs.declared.task.JobInputs.{JobInputs}
+use Rattle.tm_program.specs.declared.task.Overview.{Overview}
+use Rattle.tm_program.specs.declared.task.Overview.TheVariants.{Frames, Summary}
+use Rattle.tm_program.specs.declared.task.Task.{Task}
+use Rattle.tm_program.specs.declared.task.Task.TheVariants as task
 use Rattle.tm_arguments.specs.declared.request.Plan.{Plan}
 
 -- So much is done by a run from this work, whatever its source tells. There are octets that the ending reads, the records that are
@@ -29,9 +32,15 @@ IsDone text ending w done = (read : List ℕ) × IsEnough ending w None read
     × (option_map (λ job. job.work) done.kept ≡ kept_of ending (worked w (records_for ending (further w read))))
     × (done.totals ≡ totals_over text ending w read)
 
--- So much is done by a run of the plan with these settings and this definition, from this job where there is one.
-abbrev pub HasDone : Plan → Rules → Option (List Field) → Option JobState → Done → Type 0
-HasDone p settings fields resumed done = IsDone (texts_for p.action fields p.apid) (ending_of p) (work_from settings resumed) done
+-- So much is done by the job of a plan, with these settings.
+abbrev pub HasDone : Plan → Rules → JobInputs → Done → Type 0
+HasDone p settings job done = IsDone (texts_of job.destination) (ending_of p) (work_from settings job.resumed) done
+
+-- so much is done by the task of a plan, if it is a job
+abbrev pub IsTaskDone : Plan → Rules → Task → Option Done → Type 0
+IsTaskDone p settings (task.Job job) (Some done) = HasDone p settings job done
+IsTaskDone p settings (task.Job job) None = ⊥
+IsTaskDone p settings (task.Overview overview) done = done ≡ None
 
 -- what is found is what the run gave and lost
 abbrev pub FindsDone : Done → Found → Type 0
@@ -48,15 +57,13 @@ abbrev pub HasCheckpoint : Done → Replaced → Type 0
 HasCheckpoint done replaced = IfSome done.kept (λ job. replaced_octets replaced ≡ checkpoint_of job.work)
 
 -- a summary of what was read was written, or a list of its frames, and this was found
-abbrev pub HasShown : Action → Rules → (left_old left_new out_old out_new : Option (List ℕ)) → Found → Type 0
+abbrev pub HasShown : Overview → Rules → (left_old left_new out_old out_new : Option (List ℕ)) → Found → Type 0
 HasShown Summary rules left_old left_new out_old out_new (found.Summary summed) = IsSummed rules left_old left_new out_old out_new summed
-HasShown Summary rules left_old left_new out_old out_new _ = ⊥
-HasShown _ rules left_old left_new out_old out_new (found.Frames listed) = IsListing rules.layout left_old left_new out_old out_new listed
+HasShown Frames rules left_old left_new out_old out_new (found.Frames listed) = IsListing rules.layout left_old left_new out_old out_new listed
 HasShown _ rules left_old left_new out_old out_new _ = ⊥
 
 -- what a list or a summary of some recording finds
-abbrev pub IsListFound : Action → Found → Type 0
+abbrev pub IsListFound : Overview → Found → Type 0
 IsListFound Summary (found.Summary summed) = IsOfSummary summed
-IsListFound Summary _ = ⊥
-IsListFound _ (found.Frames listed) = IsOfList listed
+IsListFound Frames (found.Frames listed) = IsOfList listed
 IsListFound _ _ = ⊥

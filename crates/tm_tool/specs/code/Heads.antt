@@ -8,13 +8,12 @@ use Rattle.tm_output.specs.Outputs.{lines_buffering}
 use Rattle.tm_output.specs.code.Outlets.{PutStopped}
 use Rattle.tm_fields.specs.Rows.{head_of}
 use Rattle.tm_output.specs.declared.command.Command.{Command}
-use Rattle.tm_output.specs.declared.command.Command.TheVariants.{Extract, Packets, Fields}
+use Rattle.tm_output.specs.declared.command.Command.TheVariants.{Fields}
 
 -- the octets of the head of the rows, for a job that is fresh
 abbrev pub head_text : Command → Bool → List ℕ
-head_text Extract fresh = []
-head_text Packets fresh = []
 head_text (Fields definition application) fresh = if fresh then head_of definition.now else []
+head_text _ fresh = []
 
 -- writing stopped in it, or it was written and the flush behind it failed
 abbrev pub HeadStopped : Option (List ℕ) → Option (List ℕ) → ℕ → ℕ → List ℕ → RunFault → Type 0

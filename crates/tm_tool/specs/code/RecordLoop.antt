@@ -1,18 +1,17 @@
 -- The loop over a recording's records, whatever takes them: for private contracts.
-use Rattle.std.specs.Prelude.{⊤, ◌≡◌, ◌⊎◌, ◌<◌, ◌≤◌, ◌+◌, ℕ, List, [], ◌∷◌, ◌++◌, length, Option, Result, MatchResult}
+use Rattle.std.specs.Prelude.{⊤, ◌≡◌, ◌⊎◌, ◌<◌, ◌≤◌, ◌+◌, ℕ, List, [], ◌∷◌, length, drop, Option, Result, MatchResult}
 use Rattle.std.specs.List.{concat}
 use Rattle.std.specs.Io.KnownBytes.{Consumes}
-use Rattle.tm_frame.specs.Layout.{record_length_of}
 use Rattle.tm_devices.specs.Devices.{raised}
 use Rattle.tm_faults.specs.declared.run.RunFault.{RunFault}
 use Rattle.tm_faults.specs.declared.run.RunFault.TheVariants.{Read, Write, Report, ShortRecording, TooMany, NoMemory}
 use Rattle.tm_output.specs.declared.command.Ending.{Ending}
 use Rattle.tm_output.specs.declared.command.Ending.TheVariants.{Close, Keep, StopAfter}
-use Rattle.tm_output.specs.Records.{AreRecords}
-use Rattle.tm_output.specs.code.Next.{FailsNext, ReadsNext}
-use Rattle.tm_checkpoint.specs.Works.{Work}
-use Rattle.tm_tool.specs.RecordingPieces.{worked}
-use Rattle.tm_tool.specs.Runs.{HasEnded, HasRead, HasReadAll, WantsFurther, behind}
+use Rattle.tm_tool.specs.Endings.{EndsAt, WantsFurther}
+use Rattle.tm_output.specs.Records.{AreRecords, HasRead, HasReadAll}
+use Rattle.tm_frame.specs.Layout.{most_records}
+use Rattle.tm_output.specs.Outputs.{Buffering, Piece, Stopped, View}
+use Rattle.tm_tool.specs.code.Next.{FailsNext, ReadsNext}
 
 -- no more records were read than are wanted
 abbrev pub Reached : Ending → ℕ → ℕ → Type 0
@@ -66,85 +65,95 @@ abbrev pub PassesRecords : {T : Type 0} → ℕ → ℕ → Option (List ℕ) �
 PassesRecords size count left_old left_new failures_old failures_new r =
     MatchResult r (λ _. HasPassed size count left_old left_new × (failures_new ≡ failures_old)) (PassingStopped size count left_old left_new failures_old failures_new)
 
--- ---- the next record is taken
+-- ---- what takes records
 
--- it was taken behind this work
-abbrev pub TookNext : {V : Type 0} → (Work → List ℕ → V → V → Type 0) → Work → Option (List ℕ) → Option (List ℕ) → V → V → Work → Type 0
-TookNext takes w left_old left_new old new now =
-    ReadsNext (record_length_of w.rules.layout) left_old left_new (λ one. (now ≡ worked w (one ∷ [])) × takes w one old new)
+-- how a handler may change with records, one after the other, and how where it refuses a record with a fault
+abbrev pub Taking : Type 0 → Type 1
+Taking V = V → List (List ℕ) → V → Type 0
+
+abbrev pub Refusing : Type 0 → Type 1
+Refusing V = V → List ℕ → V → RunFault → Type 0
+
+-- what took records before still took them
+abbrev pub StillTakes : {V : Type 0} → Taking V → V → V → Type 0
+StillTakes {V} takes old new = (before : V) (rs : List (List ℕ)) → takes before rs old → takes before rs new
+
+-- or refused the last one
+abbrev pub ThenRefuses : {V : Type 0} → Taking V → Refusing V → V → V → RunFault → Type 0
+ThenRefuses {V} takes refuses old new fault = (before : V) (one : List ℕ) → takes before (one ∷ []) old → refuses before one new fault
 
 -- `Read` where the source's count rose, else it was read and not taken
-abbrev pub NextStopped : {V : Type 0} → (Work → List ℕ → V → V → RunFault → Type 0) → Work → Option (List ℕ) → Option (List ℕ) → ℕ → ℕ → V → V → RunFault → Type 0
-NextStopped refuses w left_old left_new failures_old failures_new old new fault =
-    (FailsNext (record_length_of w.rules.layout) left_old left_new × (fault ≡ Read) × (failures_new ≡ raised failures_old) × (new ≡ old))
-    ⊎ (ReadsNext (record_length_of w.rules.layout) left_old left_new (λ one. refuses w one old new fault) × (failures_new ≡ failures_old))
-
--- what takes each record before still takes it
-abbrev pub StillTakes : {V : Type 0} → (Work → List ℕ → V → V → Type 0) → V → V → Type 0
-StillTakes {V} takes old new = (w : Work) (one : List ℕ) (before : V) → takes w one before old → takes w one before new
-
--- or refuses it
-abbrev pub ThenRefuses : {V : Type 0} → (Work → List ℕ → V → V → Type 0) → (Work → List ℕ → V → V → RunFault → Type 0) → V → V → RunFault → Type 0
-ThenRefuses {V} takes refuses old new fault = (w : Work) (one : List ℕ) (before : V) → takes w one before old → refuses w one before new fault
+abbrev pub NextStopped : {V : Type 0} → Refusing V → ℕ → Option (List ℕ) → Option (List ℕ) → ℕ → ℕ → V → V → RunFault → Type 0
+NextStopped refuses size left_old left_new failures_old failures_new old new fault =
+    (FailsNext size left_old left_new × (fault ≡ Read) × (failures_new ≡ raised failures_old) × (new ≡ old))
+    ⊎ (ReadsNext size left_old left_new (λ one. refuses old one new fault) × (failures_new ≡ failures_old))
 
 -- ---- and those behind the ones that are done are taken
 
--- records are taken one after the other behind this work, with `takes` of each one
-abbrev pub TakesBehind : {V : Type 0} → (Work → List ℕ → V → V → Type 0) → Work → List (List ℕ) → List (List ℕ) → V → V → Type 0
-TakesBehind takes w done [] old new = new ≡ old
-TakesBehind {V} takes w done (one ∷ rs) old new = (mid : V) × takes (worked w done) one old mid × TakesBehind takes w (done ++ one ∷ []) rs mid new
+-- records are taken one after the other
+abbrev pub TakesEach : {V : Type 0} → Taking V → V → List (List ℕ) → V → Type 0
+TakesEach takes old [] new = new ≡ old
+TakesEach {V} takes old (one ∷ rs) new = (mid : V) × takes old (one ∷ []) mid × TakesEach takes mid rs new
 
-abbrev pub TakesRecords : {V : Type 0} → (Work → List ℕ → V → V → Type 0) → Work → List (List ℕ) → V → V → Type 0
-TakesRecords takes w rs old new = TakesBehind takes w [] rs old new
-
--- `takes` says what holds before and after records are taken behind a work
-module _ {V : Type 0} (takes : Work → List (List ℕ) → V → V → Type 0) where
-  -- these records were read, nothing else, and those behind the ones that are done were taken
-  pub record HasTaken (w : Work) (left_old left_new : Option (List ℕ)) (old new : V) (now : Work) : Type 0 where
+-- a record has so many octets, and so many records are done
+module _ {V : Type 0} (takes : Taking V) (size done : ℕ) where
+  -- these records were read, nothing else; those behind the ones that are done were taken, and so many are done now
+  pub record HasTaken (left_old left_new : Option (List ℕ)) (old new : V) (count : ℕ) : Type 0 where
     pub read : List (List ℕ)
-    pub sized : AreRecords (record_length_of w.rules.layout) read
+    pub sized : AreRecords size read
     pub octets : Consumes left_old left_new (concat read)
-    pub passed : w.state.records ≤ length read
-    pub work : now ≡ worked w (behind w read)
-    pub took : takes w (behind w read) old new
+    pub passed : done ≤ length read
+    pub count_is : count ≡ length read
+    pub took : TakesEach takes old (drop done read) new
 
-  -- all that the ending reads was read and taken, and so many octets are left
-  pub record HasStepped (ending : Ending) (w : Work) (left_old left_new : Option (List ℕ)) (old new : V) (now : Work) (octets : ℕ) : Type 0 where
+  -- all that the ending reads was read and taken, so many records are done, and so many octets are left
+  pub record HasStepped (ending : Ending) (left_old left_new : Option (List ℕ)) (old new : V) (count octets : ℕ) : Type 0 where
     pub read : List (List ℕ)
     pub rest : List ℕ
-    pub passed : w.state.records ≤ length read
-    pub ended : HasEnded ending w left_old left_new read rest
+    pub passed : done ≤ length read
+    pub ended : EndsAt ending size done left_old left_new read rest
+    pub count_is : count ≡ length read
     pub left : length rest ≡ octets
-    pub work : now ≡ worked w (behind w read)
-    pub took : takes w (behind w read) old new
+    pub took : TakesEach takes old (drop done read) new
 
   -- a read failed in a record behind them
-  pub record TakingFails (ending : Ending) (w : Work) (left_old left_new : Option (List ℕ)) (old new : V) : Type 0 where
+  pub record TakingFails (ending : Ending) (left_old left_new : Option (List ℕ)) (old new : V) : Type 0 where
     pub read : List (List ℕ)
     pub part : List ℕ
-    pub octets : HasRead (record_length_of w.rules.layout) left_old left_new read part
-    pub short : length part < record_length_of w.rules.layout
-    pub passed : w.state.records ≤ length read
-    pub wanted : WantsFurther ending w.state.records (length read)
-    pub took : takes w (behind w read) old new
+    pub octets : HasRead size left_old left_new read part
+    pub short : length part < size
+    pub passed : done ≤ length read
+    pub wanted : WantsFurther ending done (length read)
+    pub took : TakesEach takes old (drop done read) new
 
-  -- `refuses` says what holds where a record behind a work is not taken
-  module _ (refuses : Work → List ℕ → V → V → RunFault → Type 0) where
-    -- the record that was read last was not taken
-    pub record TakingRefused (ending : Ending) (w : Work) (left_old left_new : Option (List ℕ)) (old new : V) (fault : RunFault) : Type 0 where
-      pub read : List (List ℕ)
-      pub one : List ℕ
-      pub octets : HasRead (record_length_of w.rules.layout) left_old left_new read one
-      pub exact : length one ≡ record_length_of w.rules.layout
-      pub passed : w.state.records ≤ length read
-      pub wanted : WantsFurther ending w.state.records (length read)
-      pub mid : V
-      pub took : takes w (behind w read) old mid
-      pub stopped : refuses (worked w (behind w read)) one mid new fault
+  -- the record that was read last was not taken
+  pub record TakingRefused (refuses : Refusing V) (counted : V → ℕ) (ending : Ending) (left_old left_new : Option (List ℕ)) (old new : V) (fault : RunFault) : Type 0 where
+    pub read : List (List ℕ)
+    pub one : List ℕ
+    pub octets : HasRead size left_old left_new read one
+    pub exact : length one ≡ size
+    pub passed : done ≤ length read
+    pub wanted : WantsFurther ending done (length read)
+    pub mid : V
+    pub count_is : counted mid ≡ length read
+    pub took : TakesEach takes old (drop done read) mid
+    pub stopped : refuses mid one new fault
 
-    -- the loop stopped: before all records that are done were passed over, in a read, or in a record
-    abbrev pub TakingStopped : Ending → Work → Option (List ℕ) → Option (List ℕ) → ℕ → ℕ → V → V → RunFault → Type 0
-    TakingStopped ending w left_old left_new failures_old failures_new old new fault =
-        (PassingStopped (record_length_of w.rules.layout) w.state.records left_old left_new failures_old failures_new fault × (new ≡ old))
-        ⊎ ((TakingFails ending w left_old left_new old new × (fault ≡ Read) × (failures_new ≡ raised failures_old))
-        ⊎ (TakingRefused ending w left_old left_new old new fault × (failures_new ≡ failures_old)))
+  -- the loop stopped: before all records that are done were passed over, in a read, or in a record
+  abbrev pub TakingStopped : Refusing V → (V → ℕ) → Ending → Option (List ℕ) → Option (List ℕ) → ℕ → ℕ → V → V → RunFault → Type 0
+  TakingStopped refuses counted ending left_old left_new failures_old failures_new old new fault =
+      (PassingStopped size done left_old left_new failures_old failures_new fault × (new ≡ old))
+      ⊎ ((TakingFails ending left_old left_new old new × (fault ≡ Read) × (failures_new ≡ raised failures_old))
+      ⊎ (TakingRefused refuses counted ending left_old left_new old new fault × (failures_new ≡ failures_old)))
+
+-- ---- a handler that writes pieces
+
+module _ {A K : Type 0} (grows : K → K → List A → Type 0) where
+  -- it stopped at a record: while writing, or before a record that is one too many
+  abbrev pub StepStopped : Buffering → ℕ → View K → View K → List (Piece A) → RunFault → Type 0
+  StepStopped buffering records old new pieces Read = ⊥
+  StepStopped buffering records old new pieces Write = Stopped grows buffering old new pieces Write
+  StepStopped buffering records old new pieces Report = Stopped grows buffering old new pieces Report
+  StepStopped buffering records old new pieces ShortRecording = ⊥
+  StepStopped buffering records old new pieces TooMany = (records ≡ most_records) × (new ≡ old)
+  StepStopped buffering records old new pieces NoMemory = Stopped grows buffering old new pieces NoMemory

@@ -1,20 +1,24 @@
 -- What was counted by then, while a summary is made: for private contracts.
-use Rattle.std.specs.Prelude.{◌≡◌, ◌+◌, ◌≤◌, ℕ, List, [], ◌∷◌, ◌++◌, length, Option, Result, MatchResult}
+use Rattle.std.specs.Prelude.{◌≡◌, ◌≤◌, ℕ, List, ◌++◌, length, Option, Result, MatchResult}
 use Rattle.tm_frame.specs.Layout.{record_length_of}
 use Rattle.tm_packet.specs.Merge as sequence
 use Rattle.tm_reassembly.specs.Items.{closing}
-use Rattle.tm_reassembly.specs.Steps.{most_records}
-use Rattle.tm_devices.specs.Devices.{raised}
+use Rattle.tm_reassembly.specs.Steps.{Progress, most_records}
 use Rattle.tm_faults.specs.declared.run.RunFault.{RunFault}
-use Rattle.tm_faults.specs.declared.run.RunFault.TheVariants.{Read, Write, Report, ShortRecording, TooMany, NoMemory}
+use Rattle.tm_faults.specs.declared.run.RunFault.TheVariants.{TooMany}
+use Rattle.tm_frame.specs.Rules.{Rules}
+use Rattle.tm_output.specs.Faults.{CausedByDevice}
+use Rattle.tm_output.specs.Outputs.{View}
 use Rattle.tm_output.specs.Pieces.{noted_all}
+use Rattle.tm_output.specs.Records.{HasReadAll}
+use Rattle.tm_tool.specs.code.RecordLoop.{Refusing, Taking}
 use Rattle.tm_summary.specs.SummaryNumbers.{SummaryNumbers, Tally, numbers_of}
 use Rattle.tm_summary.specs.Tallies.{and_items, and_notes, notes_among, open_notes}
-use Rattle.tm_checkpoint.specs.Works.{Work}
-use Rattle.tm_tool.specs.RecordingPieces.{items_of}
-use Rattle.tm_tool.specs.Runs.{HasReadAll}
+use Rattle.tm_summary.specs.declared.counting.Counting.{Counting}
+use Rattle.tm_checkpoint.specs.Works.{Work, work_of}
+use Rattle.tm_tool.specs.RecordingPieces.{items_of, worked}
 use Rattle.tm_tool.specs.RunTotals.{good_frames}
-use Rattle.tm_tool.specs.Summaries.{StopsAtMost, StopsInReading, tally_of}
+use Rattle.tm_tool.specs.Summaries.{IsSummaryStop, tally_of}
 
 -- with these records more
 abbrev pub and_records : Work → Tally → List (List ℕ) → Tally
@@ -33,19 +37,31 @@ and_end w t rest =
 abbrev pub CountedRecords : {N : Type 0} → (Tally → N) → Work → List (List ℕ) → N → N → Type 0
 CountedRecords numbers w rs before now = (t : Tally) → before ≡ numbers t → now ≡ numbers (and_records w t rs)
 
--- a record is counted, or refused because it is one too many
-abbrev pub CountsRecord : Work → List ℕ → SummaryNumbers → SummaryNumbers → Type 0
-CountsRecord w octets before now = CountedRecords numbers_of w (octets ∷ []) before now
+-- what is known while records are counted
+pub record CountingState : Type 0 where
+  pub work : Work
+  pub numbers : SummaryNumbers
 
-abbrev pub RefusesCount : Work → List ℕ → SummaryNumbers → SummaryNumbers → RunFault → Type 0
-RefusesCount w octets before now fault = (fault ≡ TooMany) × (w.state.records ≡ most_records)
+abbrev pub counting_state : Progress → Counting → CountingState
+counting_state p counting = record { work = work_of p counting.tracker.now; numbers = counting.counts.now }
 
--- the references that a sink holds which counts
+-- records are counted, or one is refused because it is one too many
+abbrev pub CountsRecords : Taking CountingState
+CountsRecords old rs new = (new.work ≡ worked old.work rs) × CountedRecords numbers_of old.work rs old.numbers new.numbers
+
+abbrev pub RefusesCount : Refusing CountingState
+RefusesCount old octets new fault = (fault ≡ TooMany) × (old.work.state.records ≡ most_records)
+
+-- what no call changes: the rules, and the references of a sink that counts
 pub record CountingNames : Type 0 where
+  pub rules : Rules
   pub tracker : ℕ
   pub counts : ℕ
 
--- and a closed end, where there is a place for each channel and application
+abbrev pub counting_names : Progress → Counting → CountingNames
+counting_names p counting = record { rules = p.rules; tracker = counting.tracker.ghost_name; counts = counting.counts.ghost_name }
+
+-- a closed end is counted, where there is a place for each channel and application
 abbrev pub CountsEnd : Work → SummaryNumbers → ℕ → SummaryNumbers → Type 0
 CountsEnd w before rest now = (t : Tally) → before ≡ numbers_of t → length w.entries ≤ 16384 → now ≡ numbers_of (and_end w t rest)
 
@@ -56,25 +72,9 @@ module _ (w : Work) (left_old left_new : Option (List ℕ)) where
     pub rest : List ℕ
     pub all : HasReadAll (record_length_of w.rules.layout) left_old left_new read rest
     pub counted : now ≡ numbers_of (tally_of w read (length rest))
-    pub count_is : count ≡ w.state.records + length read
+    pub count_is : count ≡ length read
 
-  -- counting stopped
-  abbrev pub CountingStopped : RunFault → Type 0
-  CountingStopped Read = StopsInReading w.rules left_old left_new
-  CountingStopped Write = ⊥
-  CountingStopped Report = ⊥
-  CountingStopped ShortRecording = ⊥
-  CountingStopped TooMany = StopsAtMost w.rules left_old left_new
-  CountingStopped NoMemory = ⊥
-
--- `Read` where the source's count rose
-abbrev pub CountCaused : ℕ → ℕ → RunFault → Type 0
-CountCaused old new Read = new ≡ raised old
-CountCaused old new Write = ⊥
-CountCaused old new Report = ⊥
-CountCaused old new ShortRecording = ⊥
-CountCaused old new TooMany = new ≡ old
-CountCaused old new NoMemory = ⊥
-
-abbrev pub CountCounted : {T : Type 0} → ℕ → ℕ → Result T RunFault → Type 0
-CountCounted old new r = MatchResult r (λ _. new ≡ old) (CountCaused old new)
+  -- how counting ended: where it stopped, the summary stops, and its output stays as it is
+  abbrev pub SumsUp : ℕ → ℕ → SummaryNumbers → Result ℕ RunFault → Type 0
+  SumsUp failures_old failures_new now r = MatchResult r (λ count. HasSummed now count × (failures_new ≡ failures_old))
+      (λ fault. (v : View (Option (List ℕ))) → IsSummaryStop w.rules left_old left_new v v fault × CausedByDevice failures_old failures_new v.out_failures v.out_failures fault)

@@ -8,8 +8,8 @@ use Rattle.tm_tool.proofs.job.run.Goals as goal
 pub returns-in-Ok-clause-ran : goal.returns-in-Ok-clause-ran
 returns-in-Ok-clause-ran g c =
     rw (← c.job.view_is, c.make_done.ensures.records, c.make_done.ensures.kept, c.make_done.ensures.totals)
-    (ran_behind Appends Appends-nil Appends-trans _ _ _ _ c.job.invariant.going.1 (subst (λ (n : ℕ). 0 < n) c.job.invariant.exact c.job.invariant.some) _ _ _ _ _ _ _ _ _ _ _
-    (head_took _ c.args.command c.job.inside.fresh c.in_default.ensures.whole) c.in-Ok.ensures.run)
+    (ran_behind Appends Appends-nil Appends-trans _ _ _ _ c.job.invariant.going.1 (subst (λ (n : ℕ). 0 < n) c.job.invariant.exact c.job.invariant.some) _ _ _ _ _ _ _ _ _ _
+    (head_took _ c.args.command c.job.inside.fresh c.in_default.ensures.whole) c.in-Ok.ensures.runs.0)
 
 pub returns-in-Err-clause-stopped : goal.returns-in-Err-clause-stopped
 returns-in-Err-clause-stopped g c =
@@ -19,4 +19,4 @@ returns-in-Err-clause-stopped g c =
 pub returns-in-Err-run_command-clause-stopped : goal.returns-in-Err-run_command-clause-stopped
 returns-in-Err-run_command-clause-stopped g c =
     rw (← c.job.view_is)
-    (inr (record { mid = _; headed = head_took _ c.args.command c.job.inside.fresh c.in_default.ensures.whole; stopped = c.in-Err-run_command.ensures.stopped }))
+    (inr (record { mid = _; headed = head_took _ c.args.command c.job.inside.fresh c.in_default.ensures.whole; stopped = c.in-Err-run_command.ensures.runs.0 }))

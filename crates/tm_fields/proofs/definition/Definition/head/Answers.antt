@@ -3,7 +3,7 @@ use Rattle.std.proofs.lemmas.List.{take_all}
 use Rattle.std.specs.List.{flat_map}
 use Rattle.tm_fields.specs.code.Line.{HasValues}
 use Rattle.tm_fields.specs.Rows.{lead_names, named}
-use Rattle.tm_fields.proofs.RowLemmas.{texts_more}
+use Rattle.tm_fields.proofs.RowLemmas.{values_more}
 use Rattle.tm_fields.proofs.definition.Definition.head.Goals as goal
 
 pub loop-field-preserved : goal.loop-field-preserved
@@ -12,7 +12,7 @@ loop-field-preserved c =
     let inside = rw same at c.loop-field-test.true in
     let is = rw same at c.field-item.is in
     let i : ℕ = c.loop-field.field-index in
-    let more = texts_more named lead_names c.args.self.now i c.field-item.result inside is in
+    let more = values_more named lead_names c.args.self.now i c.field-item.result inside is in
     subst (λ (values : List (List ℕ)). HasValues (λ v. Some v.items) c.write_field_name.new.writer [] values) more
     (c.in_ok-write_field_name.ensures [] (lead_names ++ flat_map named (take i c.args.self.now)) c.loop-field.invariant)
 

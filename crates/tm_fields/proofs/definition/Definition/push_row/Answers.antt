@@ -4,7 +4,7 @@ use Rattle.std.specs.List.{flat_map}
 use Rattle.csv.specs.Writing.{default_writer, fields_text, row_body}
 use Rattle.tm_fields.specs.Rows.{lead_texts, printed}
 use Rattle.tm_fields.proofs.LineLemmas.{fields_of_both}
-use Rattle.tm_fields.proofs.RowLemmas.{row_whole, texts_more}
+use Rattle.tm_fields.proofs.RowLemmas.{row_whole, values_more}
 use Rattle.tm_fields.proofs.definition.Definition.push_row.Goals as goal
 
 pub loop-field-init : goal.loop-field-init
@@ -20,7 +20,7 @@ loop-field-preserved c =
     let is = rw same at c.field-item.is in
     let i : ℕ = c.loop-field.field-index in
     let print = printed c.args.packet.now in
-    let more = texts_more print [] c.args.self.now i c.field-item.result inside is in
+    let more = values_more print [] c.args.self.now i c.field-item.result inside is in
     let lead = row_body default_writer (lead_texts c.args.lead) in
     let before = fields_text default_writer (flat_map print (take i c.args.self.now)) in
     let next = fields_text default_writer (print c.field-item.result) in

@@ -46,13 +46,13 @@ class Speed:
         octets: Counter[int] = Counter()
         packets: Counter[int] = Counter()
         for (_, apid), counts in self.recording.summary().applications.items():
-            packets[apid] += counts.packets * (apid != 2047)
+            packets[apid] += counts.packets
             octets[apid] += counts.octets
-        (self.apid, self.rows), *_ = packets.most_common(1)
-        self.length, rest = divmod(octets[self.apid], self.rows)
-        lengths = {len(it.octets) for it in self.recording.packets(self.apid)}
-        if rest or lengths != {self.length}:
-            sys.exit(f"packets of application {self.apid} have several lengths: {sorted(lengths)[:10]}")
+        self.apid, self.rows = max((it for it in packets.items() if it[0] != 2047), key=lambda it: it[1])
+        self.length = octets[self.apid] // self.rows
+        if any(len(it.octets) != self.length for it in self.recording.packets(self.apid)):
+            sys.exit(f"packets of application {self.apid} have several lengths")
+        self.number = packets.total()
 
     def packets(self) -> None:
         for _ in self.recording.packets():
@@ -97,7 +97,7 @@ def main(name: str, settings: str, rounds: str = "5") -> None:
         wanted = speed.by_hand()
         if not table[list(wanted)].equals(wanted):
             sys.exit("the table isn't what numpy reads by hand")
-        print(f"octets={os.path.getsize(name)} rows={speed.rows} table={needs} most={most} ratio={most / needs:.2f}")
+        print(f"octets={os.path.getsize(name)} packets={speed.number} rows={speed.rows} table={needs} most={most}")
         times = timed([speed.packets, speed.packets_array, speed.to_pandas, speed.by_hand], int(rounds))
     for call, seconds in times.items():
         print(f"{call} {statistics.median(seconds):.3f} (least {min(seconds):.3f})")

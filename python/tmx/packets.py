@@ -82,15 +82,18 @@ def chosen(apid: Numbers, channel: Numbers) -> Chosen:
     return Chosen(numbers("apid", apid, APPLICATIONS), numbers("channel", channel, CHANNELS))
 
 
-def packets_of(runs: Runs, missing: Missing) -> Iterator[Packet]:
-    """The chosen packets that a run gives.  What they are leaves `missing`.  Raises DisagreementError where one isn't whole."""
+def blocks_of(runs: Runs, missing: Missing) -> Iterator[list[Packet]]:
+    """The chosen packets that a run gives, some at a time.  What they are leaves `missing`.
+
+    Raises DisagreementError where the last one isn't whole.
+    """
     rest = b""
     while octets := runs.chunk(0):
         block = rest + octets
         packets, end = packets_in(block, missing)
         missing.all = missing.all and not end
         rest = block[end:]
-        yield from packets
+        yield packets
     runs.finish()
     if rest:
         raise not_whole(rest)
@@ -135,7 +138,7 @@ def other_lead(octets: bytes) -> DisagreementError:
 
 
 def array_of(runs: Runs, missing: Missing) -> PacketArray:
-    """The chosen packets that a run gives.  Raises ImportError where numpy isn't there, else what `packets_of` raises."""
+    """The chosen packets that a run gives.  Raises ImportError where numpy isn't there, else what `blocks_of` raises."""
     numpy = module("numpy")
     if numpy is None:
         raise ImportError("numpy is not there: `packets` gives packets one by one")

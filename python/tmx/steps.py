@@ -12,7 +12,7 @@ from .checkpoints import CutBackError, Name, NewFile, records_done
 from .errors import RunError
 from .lines import Packet
 from .notes import warn_of_nothing
-from .packets import Chosen, Missing, PacketArray, array_of, packets_of
+from .packets import Chosen, Missing, PacketArray, array_of, blocks_of
 from .progress import Progress
 from .runs import Command, Runs, running
 from .settings import Settings
@@ -81,7 +81,8 @@ class Job:
         """The packets; the program keeps the job in a file."""
         missing = Missing(self.chosen)
         with running(self.source, self.settings, self.command(kept), progress=self.progress) as runs:
-            yield from packets_of(runs, missing)
+            for packets in blocks_of(runs, missing):
+                yield from packets
         self.warn(runs, missing)
 
     def array(self) -> PacketArray:

@@ -142,18 +142,31 @@ def array_of(runs: Runs, missing: Missing) -> PacketArray:
     numpy = module("numpy")
     if numpy is None:
         raise ImportError("numpy is not there: `packets` gives packets one by one")
-    whole = io.BytesIO()
+    whole, offsets, end = io.BytesIO(), array("q"), 0
     while block := runs.chunk(0):
         whole.write(block)
+        with whole.getbuffer() as octets:
+            end = add_offsets(octets, end, offsets)
     runs.finish()
-    octets = whole.getvalue()
-    return PacketArray(chosen_of(numpy, read_array(numpy, octets), missing), octets)
+    given = whole.getvalue()
+    if end != len(given):
+        raise not_whole(given[offsets[-1] if offsets else 0 :])
+    return PacketArray(chosen_of(numpy, read_array(numpy, given, offsets), missing), given)
 
 
-def read_array(numpy: Any, octets: bytes) -> Any:
-    """All packets, from their leads and headers."""
-    offsets = numpy.frombuffer(offsets_of(octets), "q")
-    if not len(offsets):
+def add_offsets(octets: memoryview, at: int, offsets: "array[int]") -> int:
+    """Adds where each lead begins from here on.  Where the one begins that isn't there yet."""
+    last, unpack = len(octets) - HEADED, LENGTH.unpack_from
+    while at <= last:
+        offsets.append(at)
+        at += LEAD.size + unpack(octets, at)[0]
+    return at
+
+
+def read_array(numpy: Any, octets: bytes, each: "array[int]") -> Any:
+    """All packets, from their leads, which begin there, and their headers."""
+    offsets = numpy.frombuffer(each, "q")
+    if not each:
         return numpy.empty(0, GIVEN)
     at_each_octet = numpy.ndarray(len(octets) - HEADED + 1, HEADS, octets, strides=(1,))
     heads, found = at_each_octet[offsets], numpy.empty(len(offsets), GIVEN)
@@ -169,17 +182,6 @@ def read_array(numpy: Any, octets: bytes) -> Any:
     found["flags"] = heads["sequence"] >> 14
     found["count"] = heads["sequence"] & 0x3FFF
     found["offset"] = offsets + LEAD.size
-    return found
-
-
-def offsets_of(octets: bytes) -> "array[int]":
-    """Where each lead begins.  Raises DisagreementError where the last packet isn't whole."""
-    found, at, last, unpack = array("q"), 0, len(octets) - HEADED, LENGTH.unpack_from
-    while at <= last:
-        found.append(at)
-        at += 16 + unpack(octets, at)[0]
-    if at != len(octets):
-        raise not_whole(octets[found[-1] if found else 0 :][:HEADED])
     return found
 
 

@@ -48,7 +48,7 @@ class WithModules(TestCase):
     def have(self, **modules) -> None:
         """Has other modules stand for these, for the rest of the test; None is one that isn't there."""
         there = values.module
-        for name in ("tmx.values.module", "tmx.fields.module", "tmx.times.module"):
+        for name in ("tmx.values.module", "tmx.fields.module", "tmx.packets.module", "tmx.times.module"):
             self.enterContext(mock.patch(name, lambda it: modules[it] if it in modules else there(it)))
 
 
@@ -242,6 +242,7 @@ class Lists(Columns, WithModules):
         fields = example().fields(ATTITUDE, 101)
         self.raises(ImportError, None, fields.to_numpy)
         self.raises(ImportError, None, fields.to_pandas)
+        self.raises(ImportError, None, example().packets_array)
 
 
 @needs("numpy")
@@ -264,11 +265,16 @@ class Arrays(Columns, TestCase):
 
     @needs("pandas")
     def test_pandas(self) -> None:
+        import numpy
+
         fields = example().fields(ATTITUDE, 101, time=("SECONDS", "FRACTION"), epoch="2000-01-01")
         table = fields.to_pandas()
         self.assertEqual((len(table), list(table.columns), table.index.name), (503, list(fields), "time"))
         self.assertEqual(int(table["ANGLE_X"].max()), 899)
         self.assertEqual([str(it) for it in table.dtypes], [str(it.dtype) for it in fields.to_numpy().values()])
+        self.assertEqual([it for it in fields if not numpy.shares_memory(table[it].to_numpy(), fields[it])], [])
+        fields["ANGLE_X"][:] += 1
+        self.assertEqual(int(fields["ANGLE_X"].max()), 900)
 
 
 class StandIns(WithModules):

@@ -193,8 +193,9 @@ def read_tables(
     with report_file(table, source, settings) as report:
         line = ["--definition", os.fspath(table.definition), "--apid", str(table.apid), "--report", report.name]
         with running(source, settings, Command(["fields", "--binary", *line, *table.step]), progress=progress) as runs:
-            if not (first := runs.chunk(0)):
-                runs.finish()
+            first = runs.chunk(0)
+            if not first and (fault := runs.runs[0].fault()):
+                raise fault
             kinds = Kinds(columns_of(table.definition), table.encoding)
             length = kinds.places()[-1]
             tables = tables_of(table, kinds, table.rows(whole_rows(runs, first, length), length, missing), rows)
@@ -258,7 +259,7 @@ def tables_of(table: Table, kinds: Kinds, pieces: Iterable[bytes], rows: int | N
 
 
 def whole_rows(runs: Runs, octets: bytes, length: int) -> Iterator[bytes]:
-    """What a run gives from these octets on, in pieces that are whole rows.  Raises DisagreementError where the last isn't whole."""
+    """What the first run gives from these octets on, in whole rows.  Raises DisagreementError where the last isn't whole."""
     rest = b""
     while octets:
         octets = rest + octets
@@ -268,8 +269,8 @@ def whole_rows(runs: Runs, octets: bytes, length: int) -> Iterator[bytes]:
             yield octets[:end]
         octets = runs.chunk(0)
     if rest:
-        runs.finish()
-        raise DisagreementError(f"the program's rows have another length than {length} octets, which the definition says")
+        said = f"the program's rows have another length than {length} octets, which the definition says"
+        raise runs.runs[0].fault() or DisagreementError(said)
 
 
 def check_leads(rows: bytes, length: int, apid: int) -> None:

@@ -301,8 +301,6 @@ class Programs(TestCase):
             self.raises(tmx.VersionError, None, example().summary)
 
     def test_other_lines(self) -> None:
-        self.program('echo "packet record=0 channel=0"; exit 0')
-        self.raises(tmx.VersionError, None, lambda: list(example().packets()))
         self.program('echo "frame record=0 channel=9"; exit 0')
         self.raises(tmx.VersionError, None, lambda: list(example().frames()))
         self.program('"$real" "$@" && "$real" "$@"')
@@ -335,10 +333,8 @@ class Programs(TestCase):
 
     def test_killed(self) -> None:
         whole = list(example().packets())
-        listed = "".join(f"{it}\n" for it in whole)[:30000].count("\n")
-        extracted = sum(it <= 30000 for it in accumulate(len(it.octets) for it in whole))
-        self.assertEqual(self.killed("packets", '"$real" "$@" | head -c 30000'), whole[:listed])
-        self.assertEqual(self.killed("extract", '"$real" "$@" | head -c 30000'), whole[:extracted])
+        there = sum(it <= 30000 for it in accumulate(16 + len(it.octets) for it in whole))
+        self.assertEqual(self.killed("packets", '"$real" "$@" | head -c 30000'), whole[:there])
         self.assertEqual(self.killed("packets", ""), [])
         self.assertEqual(self.killed("packets", '"$real" "$@"'), whole)
 
@@ -367,21 +363,8 @@ class Programs(TestCase):
         self.raises(tmx.KilledError, "SIGKILL", lambda: list(recording.packets()))
 
     def test_disagreement(self) -> None:
-        self.program('[ "$1" = extract ] || exec "$real" "$@"\n"$real" "$@" | head -c 30000')
-        self.raises(tmx.DisagreementError, None, lambda: list(example().packets()))
-        for more in ('"$real" "$@"; echo more', '"$real" "$@" >all; echo more >>all; cat all'):
-            self.program(f'[ "$1" = extract ] || exec "$real" "$@"\n{more}')
-            self.raises(tmx.DisagreementError, None, lambda: list(example().packets()))
         self.program('[ "$1" = frames ] || exec "$real" "$@"\n"$real" "$@" | head -c 30000')
         self.raises(tmx.DisagreementError, None, lambda: list(example().frames()))
-        self.program('[ "$1" = fields ] || exec "$real" "$@"\n"$real" "$@" | sed 1s/STARS/OTHERS/')
-        self.raises(tmx.DisagreementError, None, example().fields, ATTITUDE, 101)
-
-    def test_runs_that_leave_different_jobs(self) -> None:
-        checkpoint = 'for it; do [ "$before" != --checkpoint ] || echo more >>"$it"; before=$it; done'
-        self.program(f'"$real" "$@" || exit\n[ "$1" != extract ] || {checkpoint}')
-        self.raises(tmx.DisagreementError, None, lambda: list(example().packets(checkpoint="chk")))
-        self.assertFalse(os.path.exists("chk"))
 
 
 if __name__ == "__main__":

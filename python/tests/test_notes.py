@@ -101,6 +101,13 @@ class Warned(TestCase):
         self.assertEqual(self.warnings_of(recording.summary), ["no good frame of channels 5 and 6, which the settings choose"])
         self.is_told_once(lambda: list(recording.packets()), "^no good frame of channel 5, 6; 300 records, 0 good, 1 bad, ")
 
+    @needs("numpy")
+    def test_an_array_says_the_same(self) -> None:
+        for chosen in ({}, {"apid": 10}, {"channel": [3, 5, 7]}, {"channel": [3, 5], "apid": 200}, {"channel": 3, "apid": [101, 102]}):
+            said = self.warnings_of(lambda: list(example().packets(**chosen)))
+            self.assertEqual(self.warnings_of(lambda: example().packets_array(**chosen)), said)
+        self.is_told_once(tmx.Recording(RECORDING, OTHER).packets_array)
+
     def test_nothing_of_a_channel_of_the_settings(self) -> None:
         self.program('"$real" "$@" 2>/dev/null; echo "  no good frame of channel 5; 300 records, 299 good: see tmx summary" >&2')
         recording = tmx.Recording(RECORDING, tmx.Settings(42, 256, True, channels=[0, 5]))

@@ -74,16 +74,6 @@ class Steps(TestCase):
             list(example().packets(checkpoint="chk"))
         self.assertEqual([name for name, _, _ in done.mock_calls], ["sync", "replace"])
 
-    def test_a_file_that_grows_between_two_runs(self) -> None:
-        Path("growing.rec").write_bytes(OCTETS[:25600])
-        Path("more").write_bytes(OCTETS[25600:])
-        self.program(
-            'case $1 in\npackets) "$real" "$@"; exec touch listed;;\n'
-            'extract) until [ -e listed ]; do sleep 0.01; done; cat more >>growing.rec;;\nesac\nexec "$real" "$@"'
-        )
-        found = list(tmx.Recording("growing.rec", SETTINGS).packets(checkpoint="chk", stop_after=200))
-        self.assertEqual((len(found), tmx.records_done("chk")), (254, 100))
-
     def test_files_of_the_program(self) -> None:
         recording, step = example(), {"checkpoint": "chk", "stop_after": 100}
         recording.extract("whole")

@@ -48,7 +48,7 @@ class WithModules(TestCase):
     def have(self, **modules) -> None:
         """Has other modules stand for these, for the rest of the test; None is one that isn't there."""
         there = values.module
-        for name in ("tmx.values.module", "tmx.fields.module", "tmx.times.module"):
+        for name in ("tmx.values.module", "tmx.fields.module", "tmx.packets.module", "tmx.times.module"):
             self.enterContext(mock.patch(name, lambda it: modules[it] if it in modules else there(it)))
 
 
@@ -88,11 +88,11 @@ class Columns:
         self.assertEqual(list(rows_of(list(TEXTS), "T,str,48\n", encoding="latin-1")["T"]), texts)
 
     def test_texts_that_are_not_in_the_encoding(self) -> None:
-        texts = [b"abc", b"d\xfff", b"ghi"]
-        for blocks in (None, 1, 2):
+        texts = [b"abc", b"def", b"d\xfff", b"ghi"]
+        for blocks in (None, 1, 2, 3):
             how = {"encoding": "ascii"} if blocks is None else {"encoding": "ascii", "blocks": blocks}
             error = self.raises(UnicodeDecodeError, None, lambda: list(rows_of(texts, "T,str,24\n", **how)))
-            self.assertIn("column 'T', row 1", str(error))
+            self.assertIn("column 'T', row 2", str(error))
             self.assertEqual((error.object, error.start), (b"d\xfff", 1))
         for errors in ("replace", "ignore", "backslashreplace", "surrogateescape"):
             wanted = [it.decode("ascii", errors) for it in texts]
@@ -236,12 +236,13 @@ class Lists(Columns, WithModules):
     def setUp(self) -> None:
         super().setUp()
         self.have(numpy=None, pandas=None)
-        self.enterContext(mock.patch.object(values, "ROWS", 100))
+        self.enterContext(mock.patch.object(values, "ROWS", 2))
 
     def test_what_needs_modules(self) -> None:
         fields = example().fields(ATTITUDE, 101)
         self.raises(ImportError, None, fields.to_numpy)
         self.raises(ImportError, None, fields.to_pandas)
+        self.raises(ImportError, None, example().packets_array)
 
 
 @needs("numpy")
@@ -264,30 +265,32 @@ class Arrays(Columns, TestCase):
 
     @needs("pandas")
     def test_pandas(self) -> None:
+        import numpy
+
         fields = example().fields(ATTITUDE, 101, time=("SECONDS", "FRACTION"), epoch="2000-01-01")
         table = fields.to_pandas()
         self.assertEqual((len(table), list(table.columns), table.index.name), (503, list(fields), "time"))
         self.assertEqual(int(table["ANGLE_X"].max()), 899)
         self.assertEqual([str(it) for it in table.dtypes], [str(it.dtype) for it in fields.to_numpy().values()])
+        self.assertEqual([it for it in fields if not numpy.shares_memory(table[it].to_numpy(), fields[it])], [])
+        fields["ANGLE_X"][:] += 1
+        self.assertEqual(int(fields["ANGLE_X"].max()), 900)
 
 
 class StandIns(WithModules):
     """What numpy and pandas are called with, on machines without them too."""
 
     def test_what_numpy_reads(self) -> None:
-        numpy, read = mock.MagicMock(), []
-        numpy.dtype.side_effect = lambda it: it if isinstance(it, str) else mock.DEFAULT
-        numpy.loadtxt.side_effect = lambda lines, kind, **how: read.append(("".join(f"{it}\n" for it in lines), kind, how))
+        numpy = mock.MagicMock()
         self.have(numpy=numpy)
-        fields = "A,uint,8,48\nB,uint,9,\nC,int,32,\nD,int,33,\nE,float,32,\nF,str,512,48\nG,str,520,48\n"
+        fields = "A,uint,8,48\nB,uint,9,\nP,fill,7,\nC,int,32,\nD,int,33,\nE,float,32,\nF,str,512,48\nG,str,8,48\n"
         Path("d.csv").write_text(f"name,data_type,bit_length,bit_offset\n{fields}")
-        text = printed("d.csv", 100).partition("\n")[2]
-        values.Kinds(read_definition("d.csv")).read(iter(text.splitlines()), 0)
-        how = {"comments": None, "delimiter": ",", "quotechar": '"', "ndmin": 1}
-        self.assertEqual(read, [(text, numpy.dtype.return_value, how)])
-        types = ["uint32", "uint8", "uint16", "uint16", "uint8", "uint16", "int32", "int64", "S10", "S256", object]
-        columns = [(f"column {number}", it) for number, it in enumerate(types)]
-        self.assertEqual(numpy.dtype.call_args, mock.call(columns))
+        rows = bytearray()
+        values.Kinds(read_definition("d.csv")).read(rows, 0)
+        types = "<u4 <u1 <u2 <u2 <u1 <u2 <i4 <i8 <f4 <V64 <V1".split()
+        names, places = [f"column {number}" for number in range(len(types))], [0, 8, 4, 6, 16, 17, 19, 23, 31, 35, 99]
+        numpy.dtype.assert_called_once_with({"names": names, "formats": types, "offsets": places, "itemsize": 100})
+        numpy.frombuffer.assert_called_once_with(rows, numpy.dtype.return_value)
 
     def test_what_a_table_of_pandas_is_made_of(self) -> None:
         pandas = mock.Mock()
@@ -295,7 +298,7 @@ class StandIns(WithModules):
         fields = example().fields(ATTITUDE, 101, time="SECONDS", epoch="2000-01-01")
         self.assertIs(fields.to_pandas(), pandas.DataFrame.return_value)
         pandas.DatetimeIndex.assert_called_once_with(fields.time, name="time")
-        pandas.DataFrame.assert_called_once_with(dict(fields), index=pandas.DatetimeIndex.return_value, copy=True)
+        pandas.DataFrame.assert_called_once_with(dict(fields), index=pandas.DatetimeIndex.return_value, copy=False)
         example().fields(ATTITUDE, 101).to_pandas()
         self.assertIsNone(pandas.DataFrame.call_args.kwargs["index"])
 

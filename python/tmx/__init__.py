@@ -55,6 +55,7 @@ from .lines import (
 )
 from .loss_map import LossMap, LossMapError
 from .markers import Cut, Slip, cut
+from .packets import PacketArray
 from .probing import Fit, Probe, probe
 from .programs import VERSION as __version__
 from .programs import Program, program
@@ -96,6 +97,7 @@ __all__ = [
     "MasterGap",
     "OutOfMemoryError",
     "Packet",
+    "PacketArray",
     "Probe",
     "Program",
     "ProgramError",

@@ -26,7 +26,7 @@ class VersionError(Error):
 
 
 class DisagreementError(Error):
-    """Two things that the program gives, or the program and a file, don't agree: the recording changed while it was read."""
+    """What the program gives is cut short, or disagrees with itself or a file, as where the recording changed meanwhile."""
 
 
 class ConsumedError(Error):

@@ -8,7 +8,7 @@ import tempfile
 from collections.abc import Collection, Iterable, Iterator, Mapping, Sequence
 from contextlib import contextmanager
 from dataclasses import dataclass
-from itertools import chain, islice
+from itertools import compress
 from typing import IO, Any
 
 from .definition import Column, column_named, long_values, read_definition
@@ -27,8 +27,8 @@ from .values import Encoding, Kinds, module
 Name = str | os.PathLike[str]
 
 MOST_ROWS, MOST_COLUMNS = 10, 20  # that are shown
-HEAD = b"tm_record,"  # how a head begins
 SHORT_PACKET = b"shortpacket "  # how its line begins
+CHANNEL = 8  # its place in a row
 
 
 class Fields(Mapping[str, Any]):
@@ -87,7 +87,7 @@ class Fields(Mapping[str, Any]):
         if pandas is None:
             raise ImportError("pandas is not there: without it columns are arrays of numpy, or lists")
         index = None if self.time is None else pandas.DatetimeIndex(self.time, name="time")
-        return pandas.DataFrame(self.by_name, index=index, copy=True)
+        return pandas.DataFrame(self.by_name, index=index, copy=False)
 
     def shown(self) -> tuple[list[str], list[list[Any]]]:
         """The head and the first rows."""
@@ -148,7 +148,7 @@ class Table:
     """What a table is made of.
 
     definition, apid  the definition, and the application
-    channels          those whose packets have rows, spelled as in the rows; None is all
+    channels          those whose packets have rows; None is all
     encoding          of texts; without one they are octets
     time              what makes the time of each row
     report            a file that the report goes to
@@ -157,17 +157,29 @@ class Table:
 
     definition: Name
     apid: int
-    channels: frozenset[str] | None = None
+    channels: frozenset[int] | None = None
     encoding: Encoding | None = None
     time: Time | None = None
     report: Name | None = None
     step: Sequence[str] = ()
 
-    def short_lines(self, report: Iterable[bytes], missing: set[str]) -> Iterator[bytes]:
+    def rows(self, pieces: Iterable[bytes], length: int, missing: set[int]) -> Iterator[bytes]:
+        """The rows of the chosen channels, all being of so many octets.  Channels that come leave `missing`."""
+        for rows in pieces:
+            check_leads(rows, length, self.apid)
+            if self.channels is None:
+                yield rows
+                continue
+            channels = rows[CHANNEL::length]
+            missing.difference_update(channels)
+            each = (rows[at : at + length] for at in range(0, len(rows), length))
+            yield b"".join(compress(each, map(self.channels.__contains__, channels)))
+
+    def short_lines(self, report: Iterable[bytes], missing: set[int]) -> Iterator[bytes]:
         """The lines of packets that are too short for a row.  Their channels leave `missing`."""
         for line in report:
             if line.startswith(SHORT_PACKET):
-                channel = line.split(b"channel=")[1][:1].decode("ascii")
+                channel = int(line.split(b"channel=")[1][:1])
                 if self.channels is None or channel in self.channels:
                     missing.discard(channel)
                     yield line
@@ -176,15 +188,17 @@ class Table:
 def read_tables(
     table: Table, source: Source, settings: Name | Settings, rows: int | None, progress: Progress
 ) -> Iterator[Fields]:
-    """What `tmx fields` prints, as tables of so many rows, or as one.  The last has the packets that are too short for a row."""
+    """What `tmx fields` gives, as tables of so many rows, or as one.  The last has the packets that are too short for a row."""
     missing = set(table.channels or ())
     with report_file(table, source, settings) as report:
-        line = ["fields", "--definition", os.fspath(table.definition), "--apid", str(table.apid), "--report", report.name]
-        with running(source, settings, Command([*line, *table.step]), progress=progress) as runs:
-            columns, lines = lines_of(table, runs)
-            if table.channels is not None:
-                lines = of_channels(lines, table.channels, missing)
-            tables = tables_of(table, columns, lines, rows)
+        line = ["--definition", os.fspath(table.definition), "--apid", str(table.apid), "--report", report.name]
+        with running(source, settings, Command(["fields", "--binary", *line, *table.step]), progress=progress) as runs:
+            first = runs.chunk(0)
+            if not first and (fault := runs.runs[0].fault()):
+                raise fault
+            kinds = Kinds(columns_of(table.definition), table.encoding)
+            length = kinds.places()[-1]
+            tables = tables_of(table, kinds, table.rows(whole_rows(runs, first, length), length, missing), rows)
             last = next(tables)
             for following in tables:
                 yield last
@@ -196,7 +210,7 @@ def read_tables(
     yield last
 
 
-def warn_of_missing(table: Table, runs: Runs, settings: Name | Settings, is_empty: bool, missing: Collection[str]) -> None:
+def warn_of_missing(table: Table, runs: Runs, settings: Name | Settings, is_empty: bool, missing: Collection[int]) -> None:
     """Warns where no packet of the application came, or none of a channel."""
     if not warn_of_nothing(runs, settings) and (is_empty or missing):
         where = f" on {numbered('channel', missing)}" if missing else ""
@@ -223,59 +237,61 @@ def report_file(table: Table, source: Source, settings: Name | Settings) -> Iter
 # Rows.
 
 
-def tables_of(table: Table, columns: Sequence[Column], lines: Iterator[str], rows: int | None) -> Iterator[Fields]:
-    """Tables of so many of the lines; without a number one of all.  Only the first may have none."""
-    kinds, done = Kinds(columns, table.encoding), 0
-    while True:
-        found = Fields(columns, kinds.read(islice(lines, rows), done))
-        if found.rows or not done:
-            if table.time is not None:
-                table.time.add_to(found)
-            yield found
-        done += found.rows
-        if found.rows != rows:
-            return
+def tables_of(table: Table, kinds: Kinds, pieces: Iterable[bytes], rows: int | None) -> Iterator[Fields]:
+    """Tables of so many rows; without a number one of all.  Only the first may have none."""
+    length = kinds.places()[-1]
+    done, kept, most = 0, bytearray(), None if rows is None else rows * length
+
+    def take(octets: bytearray) -> Fields:
+        found = Fields(kinds.columns, kinds.read(octets, done))
+        if table.time is not None:
+            table.time.add_to(found)
+        return found
+
+    for piece in pieces:
+        kept += piece
+        while most is not None and len(kept) >= most:
+            yield take(kept[:most])
+            del kept[:most]
+            done += most // length
+    if kept or not done:
+        yield take(kept)
 
 
-def lines_of(table: Table, runs: Runs) -> tuple[list[Column], Iterator[str]]:
-    """The columns, and the rows as the program prints them.  A job that goes on has printed its head before."""
-    blocks = line_blocks(runs, 0)
-    first = next(blocks, b"")
-    if not first:
+def whole_rows(runs: Runs, octets: bytes, length: int) -> Iterator[bytes]:
+    """What the first run gives from these octets on, in whole rows.  Raises DisagreementError where the last isn't whole."""
+    rest = b""
+    while octets:
+        octets = rest + octets
+        end = len(octets) - len(octets) % length
+        rest = octets[end:]
+        if end:
+            yield octets[:end]
+        octets = runs.chunk(0)
+    if rest:
+        said = f"the program's rows have another length than {length} octets, which the definition says"
+        raise runs.runs[0].fault() or DisagreementError(said)
+
+
+def check_leads(rows: bytes, length: int, apid: int) -> None:
+    """Raises DisagreementError where a row is of another application, or its lead isn't of the form of docs/FORMATS.md."""
+    number = len(rows) // length
+    applications, zeros = rows[4::length] + rows[5::length], b"".join(rows[place::length] for place in range(CHANNEL + 1, 16))
+    wanted = bytes([apid & 255]) * number + bytes([apid >> 8]) * number
+    if applications != wanted or zeros.strip(b"\0") or max(rows[CHANNEL::length]) > 7:
+        raise DisagreementError("the program gave rows whose leads aren't of the application, or aren't of the definition's length")
+
+
+def columns_of(definition: Name) -> list[Column]:
+    """The columns of a definition.  Raises DisagreementError where they have other names than the program prints."""
+    columns = read_definition(definition)
+    line = ["fields", "--definition", os.fspath(definition), "--apid", "0", "--report", os.devnull]
+    with running(Source(os.devnull), Settings(0, 9, False), Command(line)) as runs:
+        text = b"".join(line_blocks(runs, 0)).decode("utf-8", "surrogateescape")
         runs.finish()
-    columns = read_definition(table.definition)
-    if "--resume" not in table.step or first.startswith(HEAD):
-        first = without_head(first, blocks, columns)
-    return columns, chain.from_iterable(block.decode("ascii").splitlines() for block in chain([first], blocks))
-
-
-def of_channels(lines: Iterable[str], channels: Collection[str], missing: set[str]) -> Iterator[str]:
-    """The rows of some channels.  Those that come leave `missing`."""
-    for line in lines:
-        channel = line.split(",", 2)[1]
-        if channel in channels:
-            missing.discard(channel)
-            yield line
-
-
-def without_head(block: bytes, blocks: Iterator[bytes], columns: Sequence[Column]) -> bytes:
-    """What is behind the head.  Raises DisagreementError where that has other names than the definition."""
-    while (end := end_of_head(block)) < 0:
-        more = next(blocks, b"")
-        if not more:
-            raise DisagreementError("the program printed no head")
-        block += more
     with long_values():
-        head = next(csv.reader(io.StringIO(block[:end].decode("utf-8", "surrogateescape"), newline="")))
+        head: list[str] = next(csv.reader(io.StringIO(text, newline="")), [])
     names = [it.name for it in columns]
     if head != names:
         raise DisagreementError(f"the program's columns are not those of the definition: {head} and {names}")
-    return block[end:]
-
-
-def end_of_head(block: bytes) -> int:
-    """Where the first record of a CSV ends; -1 where it doesn't.  A line may end within quotes."""
-    end = block.find(b"\n")
-    while end >= 0 and block.count(b'"', 0, end) % 2:
-        end = block.find(b"\n", end + 1)
-    return end + 1 if end >= 0 else -1
+    return columns

@@ -5,7 +5,7 @@ What the lines mean is in docs/FORMATS.md.
 """
 
 import re
-from collections.abc import Iterator
+from collections.abc import Callable, Iterator
 from dataclasses import dataclass, field, fields
 from typing import Any, ClassVar, Generic, TypeVar
 
@@ -77,11 +77,28 @@ class Short(Line):
     octets: int
 
 
-# The lines of `tmx packets`, with the octets of `tmx extract`.
+# Packets, as `tmx packets --binary` writes them.
+
+Lead = tuple[int, int, int, int, int]  # the record that completes it, that in which it begins, its place, its channel, its octets
+
+TYPES = ("tm", "tc")
+FLAGS = ("continuation", "first", "last", "unsegmented")
 
 
-@dataclass(frozen=True, slots=True)
-class Packet:
+class PacketParts:
+    """The lead of a packet and its octets, which say all of it."""
+
+    __slots__ = ("parts",)
+    parts: tuple[Lead, bytes]
+
+
+def value_of(read: Callable[[Any], Any]) -> Any:
+    """A value that is worked out when it is asked for.  As the default of a dataclass's field it stays in the class."""
+    return property(read)
+
+
+@dataclass(frozen=True, init=False, eq=False)
+class Packet(PacketParts):
     """A packet that lies whole in a run of good frames.
 
     record     the record that completes it, from 0
@@ -96,16 +113,47 @@ class Packet:
     octets     all its octets, its header of six octets included
     """
 
-    record: int
-    channel: int
-    from_: int
-    at: int
-    type: str
-    secondary: bool
-    apid: int
-    flags: str
-    count: int
-    octets: bytes = field(repr=False)
+    __slots__ = ()
+
+    record: int = value_of(lambda it: it.parts[0][0])
+    channel: int = value_of(lambda it: it.parts[0][3])
+    from_: int = value_of(lambda it: it.parts[0][1])
+    at: int = value_of(lambda it: it.parts[0][2])
+    type: str = value_of(lambda it: TYPES[it.parts[1][0] >> 4 & 1])
+    secondary: bool = value_of(lambda it: it.parts[1][0] & 8 != 0)
+    apid: int = value_of(lambda it: (it.parts[1][0] & 7) << 8 | it.parts[1][1])
+    flags: str = value_of(lambda it: FLAGS[it.parts[1][2] >> 6])
+    count: int = value_of(lambda it: (it.parts[1][2] & 63) << 8 | it.parts[1][3])
+    octets: bytes = field(default=value_of(lambda it: it.parts[1]), repr=False)
+
+    def __init__(
+        self,
+        record: int,
+        channel: int,
+        from_: int,
+        at: int,
+        type: str,
+        secondary: bool,
+        apid: int,
+        flags: str,
+        count: int,
+        octets: bytes,
+    ) -> None:
+        """Raises ValueError where the octets' header says otherwise."""
+        keep_parts(self, ((record, from_, at, channel, len(octets)), octets))
+        if len(octets) < 7 or (self.type, self.secondary, self.apid, self.flags, self.count) != (type, secondary, apid, flags, count):
+            raise ValueError("the packet's header has another type, secondary header, application, flags or count")
+
+    def __eq__(self, other: object) -> bool:
+        if not isinstance(other, Packet):
+            return NotImplemented
+        return self.parts == other.parts
+
+    def __hash__(self) -> int:
+        return hash(self.parts)
+
+    def __reduce__(self) -> tuple[Callable[[Lead, bytes], "Packet"], tuple[Lead, bytes]]:
+        return read_packet, self.parts
 
     def __str__(self) -> str:
         """The line of `tmx packets`."""
@@ -114,6 +162,16 @@ class Packet:
             f" secondary={'yes' if self.secondary else 'no'} apid={self.apid} flags={self.flags} count={self.count}"
             f" octets={len(self.octets)}"
         )
+
+
+keep_parts: Callable[[Packet, tuple[Lead, bytes]], None] = vars(PacketParts)["parts"].__set__
+new_packet: Callable[[type[Packet]], Packet] = object.__new__  # without the constructor, which would look at all values
+
+
+def read_packet(lead: Lead, octets: bytes) -> Packet:
+    found = new_packet(Packet)
+    keep_parts(found, (lead, octets))
+    return found
 
 
 # The lines of reports.  `Bad` and `Short` are among them.
@@ -415,7 +473,5 @@ def read_packet_lines(text: str) -> list[PacketValues]:
 
 
 def packet(values: PacketValues, octets: bytes) -> Packet:
-    record, channel, first, place, kind, secondary, apid, flags, count, _ = values
-    return Packet(
-        int(record), int(channel), int(first), int(place), kind, secondary == "yes", int(apid), flags, int(count), octets
-    )
+    record, channel, first, place, *_ = values
+    return read_packet((int(record), int(first), int(place), int(channel), len(octets)), octets)

@@ -31,7 +31,7 @@ from .lines import (
 )
 from .loss_map import Lines, LossMap, drawing
 from .notes import numbered, settings_of, warn, warn_of_nothing
-from .pairs import chosen, spelled
+from .packets import PacketArray, chosen
 from .programs import find_program
 from .progress import Progress
 from .runs import Command, running, single_lines, whole_lines
@@ -51,10 +51,10 @@ class Recording:
     recording  the name of a file, `-` for standard input, or a binary stream.  A stream that can't go back is read once
     settings   the name of a settings file, or Settings
 
-    Nothing is read before it is asked for.  Each call runs the program `tmx`, once or twice side by side.  Whatever the
-    program refuses is raised as an error of this package, with its line, its status and its word.  So is a run that fails on
-    its way: an iterator then raises at its end, and what it gave before stands.  Where no frame is good, or nothing of a chosen
-    channel or application comes, a TmxWarning says so.
+    Nothing is read before it is asked for.  Each call runs the program `tmx`.  Whatever the program refuses is raised as an
+    error of this package, with its line, its status and its word.  So is a run that fails on its way: an iterator then raises at
+    its end, and what it gave before stands.  Where no frame is good, or nothing of a chosen channel or application comes, a
+    TmxWarning says so.
 
     With `progress=True` a call shows how many octets it has read, at a terminal and in a notebook alone: as a bar of `tqdm` where
     that is there, else as a line.  A function is told the octets that were read, and how many there are, or None.
@@ -101,13 +101,21 @@ class Recording:
         resume         the checkpoint from which the job goes on
         stop_after     how many further records are read, with `checkpoint`
 
-        One block of the recording is held in memory, and the packet.  Raises DisagreementError where the list of packets and
-        their octets don't agree, as where the recording changes meanwhile: of one that grows use `checkpoint` or `follow`.
+        One block of packets is held in memory.
         """
         stop = None if stop_after is None else number("stop_after", stop_after, RECORDS)
         is_whole = resume is None and stop is None
         job = Job(self.source, self.settings, chosen(apid, channel), report, checkpoint, resume, stop, progress, is_whole)
         return job.packets()
+
+    def packets_array(
+        self, apid: Numbers = None, channel: Numbers = None, *, report: Name | None = None, progress: Progress = False
+    ) -> PacketArray:
+        """The same packets at once: their values as an array of numpy, and the octets of all.
+
+        Raises ImportError where numpy isn't there.
+        """
+        return Job(self.source, self.settings, chosen(apid, channel), report, progress=progress, is_whole=True).array()
 
     def follow(
         self,
@@ -224,7 +232,7 @@ class Recording:
         The other words are those of `packets`, but the program writes `checkpoint`.  Raises DefinitionError, ColumnError, and
         UnicodeDecodeError, which names column and row, where a text isn't in the encoding.
         """
-        packets = number("apid", apid, APPLICATIONS), spelled(numbers("channel", channel, CHANNELS))
+        packets = number("apid", apid, APPLICATIONS), numbers("channel", channel, CHANNELS)
         step = step_words(checkpoint, resume, stop_after)
         table = Table(definition, *packets, encoding_of(encoding, errors), time_of(time, epoch), report, step)
         rows = None if blocks is None else number("blocks", blocks, RECORDS)

@@ -9,12 +9,12 @@ from pathlib import Path
 
 from .arguments import RECORDS, Number, number
 from .checkpoints import CutBackError, Name, NewFile, records_done
-from .errors import DisagreementError, RunError
+from .errors import RunError
 from .lines import Packet
 from .notes import warn_of_nothing
-from .pairs import Chosen, Missing
+from .packets import Chosen, Missing, PacketArray, array_of, blocks_of
 from .progress import Progress
-from .runs import Command, running
+from .runs import Command, Runs, running
 from .settings import Settings
 from .source import Source, refuse_to_overwrite
 
@@ -68,49 +68,38 @@ class Job:
 
         Raises FileError where `checkpoint` is another file of the job.
         """
-        if self.checkpoint is None:
-            yield from self.run([None, None], self.stop_after)
-            return
-        refuse_to_overwrite(self.checkpoint, self.source.file, self.settings, self.report)
-        with NewFile(self.checkpoint) as new, tempfile.TemporaryDirectory() as folder:
-            files = [Path(folder, "listed"), Path(folder, "extracted")]
-            yield from self.run_to(files)
-            listed, extracted = (it.read_bytes() for it in files)
-            if listed != extracted:
-                raise DisagreementError("the two runs of the program left different jobs: did the recording change?")
-            new.file.write(listed)
+        return self.run() if self.checkpoint is None else self.run_to(self.checkpoint)
 
-    def run_to(self, files: Sequence[Path]) -> Iterator[Packet]:
-        """One step.  Of a file it reads the records that are there now, since both runs have to read the same."""
-        there = None if self.source.is_stream else self.records_there()
-        if there is None:
-            yield from self.run(files, self.stop_after)
-            return
-        if there > 0:
-            yield from self.run(files, there if self.stop_after is None else min(there, self.stop_after))
-            return
-        self.keep_as_it_is(files)
+    def run_to(self, checkpoint: Name) -> Iterator[Packet]:
+        refuse_to_overwrite(checkpoint, self.source.file, self.settings, self.report)
+        with NewFile(checkpoint) as new, tempfile.TemporaryDirectory() as folder:
+            kept = Path(folder, "checkpoint")
+            yield from self.run(kept)
+            new.file.write(kept.read_bytes())
 
-    def run(self, files: Sequence[Path | None], stop_after: int | None) -> Iterator[Packet]:
-        """Lists packets and extracts their octets side by side; each run keeps its job in a file of its own."""
-        words = [step_words(it, self.resume, stop_after) for it in files]
-        listed = Command(["packets", *report_words(self.report), *words[0]])
-        extracted = Command(["extract", *report_words(None), *words[1]])
+    def run(self, kept: Path | None = None) -> Iterator[Packet]:
+        """The packets; the program keeps the job in a file."""
         missing = Missing(self.chosen)
-        with running(self.source, self.settings, listed, extracted, progress=self.progress) as runs:
-            yield from self.chosen.packets(runs, missing)
+        with running(self.source, self.settings, self.command(kept), progress=self.progress) as runs:
+            for packets in blocks_of(runs, missing):
+                yield from packets
+        self.warn(runs, missing)
+
+    def array(self) -> PacketArray:
+        """The packets in an array."""
+        missing = Missing(self.chosen)
+        with running(self.source, self.settings, self.command(), progress=self.progress) as runs:
+            found = array_of(runs, missing)
+        self.warn(runs, missing)
+        return found
+
+    def command(self, kept: Path | None = None) -> Command:
+        return Command(["packets", "--binary", *report_words(self.report), *step_words(kept, self.resume, self.stop_after)])
+
+    def warn(self, runs: Runs, missing: Missing) -> None:
+        """Warns of what didn't come."""
         if self.is_whole and not warn_of_nothing(runs, self.settings):
             missing.warn()
-
-    def keep_as_it_is(self, files: Sequence[Path]) -> None:
-        """A step of no records.  The program checks the settings, the checkpoint and the recording's length."""
-        at = self.source if self.resume is not None else Source(os.devnull)
-        words = [*report_words(self.report), *step_words(files[0], self.resume, 1)]
-        with running(at, self.settings, Command(["packets", *words], reads="end")) as runs:
-            runs.finish()
-        kept = files[0].read_bytes() if self.resume is None else Path(self.resume).read_bytes()
-        for file in files:
-            file.write_bytes(kept)
 
     def records_there(self) -> int | None:
         """How many whole records the file has now behind those that are done; less than none where it is too short.

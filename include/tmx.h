@@ -20,11 +20,13 @@ extern "C" {
 
 /* What is wanted. */
 enum tmx_command {
-    TMX_EXTRACT = 0, /* the packets' octets, as `tmx extract` writes them */
-    TMX_PACKETS = 1, /* a line for each packet, as `tmx packets` writes it */
-    TMX_FIELDS = 2,  /* rows of the fields of an application's packets, as `tmx fields` writes them: `definition` and `application` say which */
-    TMX_FRAMES = 3,  /* a line for each frame, as `tmx frames` writes it; there is no report */
-    TMX_SUMMARY = 4  /* the summary, as `tmx summary` writes it, of a whole recording in one call: no checkpoint, and `last` is not 0 */
+    TMX_EXTRACT = 0,        /* the packets' octets, as `tmx extract` writes them */
+    TMX_PACKETS = 1,        /* a line for each packet, as `tmx packets` writes it */
+    TMX_FIELDS = 2,         /* rows of the fields of an application's packets, as `tmx fields` writes them: `definition` and `application` say which */
+    TMX_FRAMES = 3,         /* a line for each frame, as `tmx frames` writes it; there is no report */
+    TMX_SUMMARY = 4,        /* the summary, as `tmx summary` writes it, of a whole recording in one call: no checkpoint, and `last` is not 0 */
+    TMX_BINARY_PACKETS = 5, /* the octets of each packet behind 16 that say where it was found, as `tmx packets --binary` writes them */
+    TMX_BINARY_FIELDS = 6   /* the rows of TMX_FIELDS in octets, as `tmx fields --binary` writes them: no head, and all of one length */
 };
 
 /* How a call ended. */
@@ -119,9 +121,9 @@ struct tmx_request {
     struct tmx_octets settings;   /* a text of settings (docs/FORMATS.md) */
     struct tmx_octets checkpoint; /* the one that the call before wrote; of length 0 for the first call of a recording */
     struct tmx_octets octets;     /* the octets of the recording behind those that earlier calls used */
-    struct tmx_octets definition; /* for TMX_FIELDS a text that defines the fields (docs/FORMATS.md); not read else, and never NULL */
+    struct tmx_octets definition; /* for rows a text that defines the fields (docs/FORMATS.md); not read else, and never NULL */
     uint32_t command;             /* an enum tmx_command */
-    uint32_t application;         /* for TMX_FIELDS the application, 0 to 2047; not read else */
+    uint32_t application;         /* for rows the application, 0 to 2047; not read else */
     uint32_t last;                /* other than 0 where the recording ends behind these octets */
 };
 
@@ -140,6 +142,7 @@ struct tmx_answer {
     size_t used;              /* so many octets of the chunk were used: all of its whole records, or all octets where `last` was not 0 */
     uint32_t strict;          /* the status that `tmx --strict` ends with (docs/FORMATS.md), for the records of this call: 5 where none is a good
                                  frame of a chosen channel, else 4 where anything is bad or lost, else 0. TMX_FRAMES has that of TMX_EXTRACT */
+    uint32_t row_length;      /* how many octets each row of TMX_BINARY_FIELDS has by the definition; 0 where none was read */
 };
 
 /* Runs over a chunk of a recording, and returns the status.

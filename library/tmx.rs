@@ -8,6 +8,9 @@ pub enum Command {
     /// The definition of the fields, and the application.
     Fields(Vec<u8>, u16),
     Frames,
+    BinaryPackets,
+    /// Likewise: the rows in octets.
+    BinaryFields(Vec<u8>, u16),
 }
 
 /// Why a call gave nothing: the numbers of `tmx.h`.
@@ -35,6 +38,8 @@ pub struct Given {
     pub report: Vec<u8>,
     /// What `tmx --strict` ends with, for the records of this chunk.
     pub strict: u32,
+    /// How many octets each row of `BinaryFields` has by the definition; 0 without one.
+    pub row_length: u32,
 }
 
 /// The settings, the checkpoint of the call before, and the octets that it left.
@@ -61,6 +66,7 @@ struct Answer {
     checkpoint: usize,
     used: usize,
     strict: u32,
+    row_length: u32,
 }
 
 unsafe extern "C" {
@@ -105,6 +111,8 @@ impl Job {
             Command::Packets => (1, &[], 0),
             Command::Fields(definition, application) => (2, definition, *application),
             Command::Frames => (3, &[], 0),
+            Command::BinaryPackets => (5, &[], 0),
+            Command::BinaryFields(definition, application) => (6, definition, *application),
         };
         let request = Request(settings, kept, all, octets(definition), command, application.into(), last.into());
         let (mut out, mut report, mut next) = (vec![0; self.left.len()], vec![0; 4096], vec![0; 4096]);
@@ -126,7 +134,7 @@ impl Job {
             if status == 0 {
                 self.left.drain(..answer.used);
                 self.checkpoint = next;
-                return Ok(Given { out, report, strict: answer.strict });
+                return Ok(Given { out, report, strict: answer.strict, row_length: answer.row_length });
             }
         }
     }

@@ -83,6 +83,10 @@ static struct given call(struct octets settings, struct octets checkpoint, const
 
 static const size_t none[3] = {0, 0, 0};
 
+static int reads_definition(uint32_t command) {
+    return command == TMX_FIELDS || command == TMX_BINARY_FIELDS;
+}
+
 /* Without room, and then with just enough. */
 static struct given served(struct octets settings, struct octets checkpoint, const uint8_t *at, size_t length, uint32_t command, uint32_t last) {
     struct given told = call(settings, checkpoint, at, length, command, last, none);
@@ -93,7 +97,7 @@ static struct given served(struct octets settings, struct octets checkpoint, con
     if (answer.status != needs) exit((int)(10 + answer.status));
     told = call(settings, checkpoint, at, length, command, last, rooms);
     if (told.answer.status != TMX_DONE || told.answer.used != answer.used || told.answer.records != answer.records) exit(5);
-    if (told.answer.strict != answer.strict) exit(5);
+    if (told.answer.strict != answer.strict || told.answer.row_length != answer.row_length) exit(5);
     return told;
 }
 
@@ -121,7 +125,7 @@ static int chunks(struct octets settings, struct octets recording, size_t size) 
 /* The call has to be refused so, with nothing but the reason. */
 static void refused(const char *what, struct given given, uint32_t status) {
     const struct tmx_answer it = given.answer;
-    if (it.status != status || it.records + it.out_length + it.report_length + it.checkpoint_length + it.used + it.strict != 0)
+    if (it.status != status || it.records + it.out_length + it.report_length + it.checkpoint_length + it.used + it.strict + it.row_length != 0)
         printf("%s: status %u fault %u, not %u\n", what, it.status, it.fault, status);
     drop(&given);
 }
@@ -140,6 +144,22 @@ static struct octets padded(struct octets text, char behind, size_t length) {
     return it;
 }
 
+/* What is said of a definition by a command that reads one: `row` is one, and `more` is too long. */
+static void wrong_definitions(uint32_t command, struct octets settings, const struct octets more[3], const uint8_t *next, size_t rest) {
+    const struct octets row = definition, none_of_all = {(uint8_t *)"?", 1};
+    definition = more[1];
+    too_long("a definition", call(settings, more[2], next, rest, command, 1, none), TMX_INPUT_DEFINITION);
+    too_long("settings before a definition", call(more[0], more[2], next, rest, command, 1, none), TMX_INPUT_SETTINGS);
+    refused("wrong settings before a definition", call(none_of_all, more[2], next, rest, command, 1, none), TMX_SETTINGS);
+    definition = none_of_all;
+    refused("a wrong definition before a checkpoint", call(settings, more[2], next, rest, command, 1, none), TMX_DEFINITION);
+    refused("wrong settings before a wrong definition", call(none_of_all, more[2], next, rest, command, 1, none), TMX_SETTINGS);
+    application = 2048;
+    refused("an application before settings", call(none_of_all, more[2], next, rest, command, 1, none), TMX_APPLICATION);
+    application = 100;
+    definition = row;
+}
+
 /* The longest settings, definition and checkpoint are read, and one octet more is refused. The first of two wrong ones tells. */
 static void limits(struct octets settings, struct octets kept, const uint8_t *next, size_t rest) {
     const struct octets row = definition, none_of_all = {(uint8_t *)"?", 1};
@@ -155,26 +175,31 @@ static void limits(struct octets settings, struct octets kept, const uint8_t *ne
     given = served(most[0], kept, next, rest, TMX_FIELDS, 1);
     drop(&given);
     refused("a checkpoint with octets behind it", call(settings, most[2], next, rest, TMX_EXTRACT, 1, none), TMX_CHECKPOINT);
-    for (uint32_t command = TMX_EXTRACT; command <= TMX_FRAMES; command++) {
-        definition = command == TMX_FIELDS ? row : more[1];
+    for (uint32_t command = TMX_EXTRACT; command <= TMX_BINARY_FIELDS; command++) {
+        if (command == TMX_SUMMARY) continue;
+        definition = reads_definition(command) ? row : more[1];
         too_long("settings", call(more[0], more[2], next, rest, command, 1, none), TMX_INPUT_SETTINGS);
         too_long("a checkpoint", call(settings, more[2], next, rest, command, 1, none), TMX_INPUT_CHECKPOINT);
         refused("settings before a checkpoint", call(none_of_all, more[2], next, rest, command, 1, none), TMX_SETTINGS);
     }
     too_long("settings of a summary", call(more[0], (struct octets){NULL, 0}, next, rest, TMX_SUMMARY, 1, none), TMX_INPUT_SETTINGS);
-    definition = more[1];
-    too_long("a definition", call(settings, more[2], next, rest, TMX_FIELDS, 1, none), TMX_INPUT_DEFINITION);
-    too_long("settings before a definition", call(more[0], more[2], next, rest, TMX_FIELDS, 1, none), TMX_INPUT_SETTINGS);
-    refused("wrong settings before a definition", call(none_of_all, more[2], next, rest, TMX_FIELDS, 1, none), TMX_SETTINGS);
-    definition = none_of_all;
-    refused("a wrong definition before a checkpoint", call(settings, more[2], next, rest, TMX_FIELDS, 1, none), TMX_DEFINITION);
-    refused("wrong settings before a wrong definition", call(none_of_all, kept, next, rest, TMX_FIELDS, 1, none), TMX_SETTINGS);
-    application = 2048;
-    refused("an application before settings", call(none_of_all, kept, next, rest, TMX_FIELDS, 1, none), TMX_APPLICATION);
-    application = 100;
     definition = row;
+    wrong_definitions(TMX_FIELDS, settings, more, next, rest);
+    wrong_definitions(TMX_BINARY_FIELDS, settings, more, next, rest);
     for (int k = 0; k < 3; k++) free(most[k].at), free(more[k].at);
     free(comment.at);
+}
+
+/* Each command that may go on from a checkpoint, with just enough room. */
+static void each_command(struct octets settings, struct octets kept, const uint8_t *next, size_t rest) {
+    for (uint32_t command = TMX_PACKETS; command <= TMX_BINARY_FIELDS; command++) {
+        struct given given;
+        if (command == TMX_SUMMARY) continue;
+        given = served(settings, kept, next, rest, command, 1);
+        /* A row has 16 octets in front, and one of the field. */
+        if (given.answer.row_length != (reads_definition(command) ? 17 : 0)) printf("command %u: rows of %u octets\n", command, given.answer.row_length);
+        drop(&given);
+    }
 }
 
 static int hostile(struct octets settings, struct octets recording) {
@@ -201,13 +226,10 @@ static int hostile(struct octets settings, struct octets recording) {
     application = 2048;
     refused("an application that is none", call(settings, kept, next, rest, TMX_FIELDS, 1, none), TMX_APPLICATION);
     application = 100;
-    for (uint32_t command = TMX_PACKETS; command <= TMX_FRAMES; command++) {
-        struct given given = served(settings, kept, next, rest, command, 1);
-        drop(&given);
-    }
+    each_command(settings, kept, next, rest);
     whole_summary = served(settings, empty, recording.at, recording.length, TMX_SUMMARY, 1);
     drop(&whole_summary);
-    for (uint32_t command = 5; command != 0; command += command)
+    for (uint32_t command = TMX_BINARY_FIELDS + 1; command != 0; command += command)
         refused("a number of no command", call(settings, kept, next, rest, command, 1, none), TMX_COMMAND);
     refused("the greatest number as a command", call(settings, kept, next, rest, UINT32_MAX, 1, none), TMX_COMMAND);
     for (size_t length = 0; length < settings.length; length++) {
@@ -262,7 +284,7 @@ static void *calls_on_it(void *unused) {
     struct tmx_request request = {lent(deep_settings), {kept, 0}, lent(deep_recording), lent(definition), 0, application, 0};
     struct tmx_answer answer;
     for (size_t round = 0; round < 2; round++) {
-        for (request.command = TMX_EXTRACT; request.command <= TMX_SUMMARY; request.command++) {
+        for (request.command = TMX_EXTRACT; request.command <= TMX_BINARY_FIELDS; request.command++) {
             request.last = request.command == TMX_SUMMARY;
             tmx_run(&request, out, sizeof out, report, sizeof report, next, sizeof next, &answer);
             if (request.command == TMX_EXTRACT && answer.status == TMX_DONE) {

@@ -21,7 +21,17 @@ sys.dont_write_bytecode = True
 import anything  # noqa: E402
 from tmx import engine  # noqa: E402
 
-COMMANDS = {engine.EXTRACT: "extract", engine.PACKETS: "packets", engine.FIELDS: "fields", engine.FRAMES: "frames", engine.SUMMARY: "summary"}
+COMMANDS = {
+    engine.EXTRACT: "extract",
+    engine.PACKETS: "packets",
+    engine.FIELDS: "fields",
+    engine.FRAMES: "frames",
+    engine.SUMMARY: "summary",
+    engine.BINARY_PACKETS: "packets --binary",
+    engine.BINARY_FIELDS: "fields --binary",
+}
+# 16 octets, and one and two for the fields.
+ROW_LENGTHS = {engine.FIELDS: 19, engine.BINARY_FIELDS: 19}
 QUIET = (b"vca", b"group", b"short")
 DEFINITION = b"name,data_type,bit_length\nfirst,uint,5\nsecond,int,11\n"
 
@@ -58,6 +68,8 @@ def in_chunks(run, settings, recording, sizes, command, application):
         answer, given = call(run, texts, command, application, last)
         if answer.status != engine.DONE:
             return f"status {answer.status} fault {answer.fault} key {answer.key}", b"", b""
+        if answer.row_length != ROW_LENGTHS.get(command, 0):
+            return f"rows of {answer.row_length} octets", b"", b""
         # A list and a summary have no report. That of the packets says the same, but for `shortpacket`.
         frames, packets = (call(run, texts, it, 0, last)[1] for it in (engine.FRAMES, engine.EXTRACT))
         strict = strict_of(frames[0], given[1] + packets[1], channels)
@@ -73,8 +85,8 @@ def in_chunks(run, settings, recording, sizes, command, application):
 
 def wanted(program, command, application):
     """What one run of the program gives of the recording."""
-    words = ["--definition", "definition", "--apid", str(application)] if command == engine.FIELDS else []
-    ran = subprocess.run([program, COMMANDS[command], "--settings", "settings", *words, "recording"], capture_output=True, check=False)
+    words = ["--definition", "definition", "--apid", str(application)] if command in ROW_LENGTHS else []
+    ran = subprocess.run([program, *COMMANDS[command].split(), "--settings", "settings", *words, "recording"], capture_output=True, check=False)
     return (ran.stdout, ran.stderr) if ran.returncode == 0 else (f"status {ran.returncode}", ran.stderr)
 
 

@@ -21,9 +21,16 @@ fn all(settings: &[u8], recording: &[u8], command: &Command, size: usize) -> (Ve
 
 fn commands(settings: &[u8], recording: &[u8], definition: Vec<u8>) {
     let mut seen = HashSet::new();
-    let starts = ["", "packet ", "tm_record", "frame "];
-    let commands = [Command::Extract, Command::Packets, Command::Fields(definition, 101), Command::Frames];
-    for (command, start) in commands.iter().zip(starts) {
+    let fields = Command::Fields(definition.clone(), 101);
+    let commands = [
+        (Command::Extract, ""),
+        (Command::Packets, "packet "),
+        (fields, "tm_record"),
+        (Command::Frames, "frame "),
+        (Command::BinaryPackets, ""),
+        (Command::BinaryFields(definition, 101), ""),
+    ];
+    for (command, start) in &commands {
         let whole = all(settings, recording, command, recording.len());
         for size in [1000, recording.len() / 2] {
             assert!(whole == all(settings, recording, command, size), "{start}: chunks of {size} octets give something else");
@@ -31,6 +38,15 @@ fn commands(settings: &[u8], recording: &[u8], definition: Vec<u8>) {
         assert!(whole.0.starts_with(start.as_bytes()), "{start}: another command");
         assert!(seen.insert(whole.0), "{start}: what another command gives");
     }
+}
+
+/// A row of the example's definition has 36 octets, and no other command reads a definition.
+fn row_lengths(settings: &[u8], recording: &[u8], definition: Vec<u8>) {
+    let told = |command| Job::new(settings, command).feed(recording).expect("a chunk");
+    assert!(told(Command::Fields(definition.clone(), 101)).row_length == 36, "the length of a row");
+    let given = told(Command::BinaryFields(definition, 101));
+    assert!(given.row_length == 36 && given.out.len() > 36 && given.out.len() % 36 == 0, "rows of one length");
+    assert!(told(Command::BinaryPackets).row_length == 0, "a length without a definition");
 }
 
 /// The example recording loses something, and no frame follows it.
@@ -59,6 +75,7 @@ fn main() {
     let read = |at: usize| std::fs::read(&words[at]).expect(&words[at]);
     let (settings, recording) = (read(1), read(2));
     commands(&settings, &recording, read(3));
+    row_lengths(&settings, &recording, read(3));
     strict(&settings, &recording);
     refusals(&settings, &recording);
 }

@@ -29,7 +29,7 @@ from pathlib import Path
 import reference
 from passes import Passes
 
-COMMANDS = ("frames", "packets", "extract", "fields", "split")
+COMMANDS = ("frames", "packets", "packets --binary", "extract", "fields", "fields --binary", "split")
 JOBS = COMMANDS[1:]
 SECONDS = 2
 # A program that waits for no input has that long: other trials may have the processors and the disk.
@@ -45,11 +45,15 @@ def text_of(lines):
     return "".join(f"{line}\n" for line in lines).encode("ascii")
 
 
+def has_rows(command):
+    return command.startswith("fields")
+
+
 def outputs_of(command, reader, application):
     """What the outputs of a command have, by their names, of what the reader has taken."""
     if command == "frames":
         return {"out": text_of(reader.frames)}
-    report = text_of(reader.report_of(application if command == "fields" else None))
+    report = text_of(reader.report_of(application if has_rows(command) else None))
     if command == "split":
         files = {"out": b"", "report": report}
         for number, octets, _, _ in reader.packets:
@@ -58,8 +62,10 @@ def outputs_of(command, reader, application):
         return files
     out = {
         "packets": lambda: text_of(it[2] for it in reader.packets),
+        "packets --binary": lambda: b"".join(reference.binary_packets(reader.packets)),
         "extract": lambda: b"".join(it[1] for it in reader.packets),
         "fields": lambda: text_of(reference.rows(reader.packets, application)),
+        "fields --binary": lambda: b"".join(reference.binary_rows(reader.packets, application)),
     }
     return {"out": out[command](), "report": report}
 
@@ -244,10 +250,10 @@ class Trials:
         Path("live.rec").write_bytes(octets)
 
     def words(self, command, *more):
-        words = [self.tmx, command, "--settings", "live.toml"]
+        words = [self.tmx, *command.split(), "--settings", "live.toml"]
         if command == "split":
             words += ["--dir", "run/split"]
-        if command == "fields":
+        if has_rows(command):
             words += ["--definition", self.definition, "--apid", "100"]
         return [*words, *more]
 
@@ -422,9 +428,9 @@ def few_writes(trials):
     wanted = closed_outputs(reference.Settings(trials.example / "settings.toml"), octets, 101)
     for command in COMMANDS:
         fresh()
-        words = [trials.tmx, command, "--settings", trials.example / "settings.toml"]
+        words = [trials.tmx, *command.split(), "--settings", trials.example / "settings.toml"]
         words += ["--dir", "run/split"] if command == "split" else []
-        words += ["--definition", trials.definition, "--apid", "101"] if command == "fields" else []
+        words += ["--definition", trials.definition, "--apid", "101"] if has_rows(command) else []
         found = writes_of([*words, "copies.rec"])
         most = sum(most_writes(command, name, len(it)) for name, it in wanted[command].items())
         wrong = f"{found} calls that write, not {most} at the most" if found > most else ""
@@ -513,7 +519,7 @@ def killed(trials):
 
 def main(words):
     trials = Trials(*words[:3])
-    make, planned = {"waiting": (waiting, 67), "killed": (killed, 12)}[words[3]]
+    make, planned = {"waiting": (waiting, 93), "killed": (killed, 18)}[words[3]]
     print(f"plan {planned}", flush=True)
     make(trials)
     return 1 if trials.failed else 0

@@ -15,14 +15,16 @@ HEADER = (CLONE / "include" / "tmx.h").read_text()
 
 class Numbers(TestCase):
     def test_those_of_the_header(self) -> None:
+        def numbers_of(kind: str) -> str:
+            return re.search(f"enum tmx_{kind} {{(.*?)}};", HEADER, re.DOTALL)[1]
+
         for kind, prefix, words in (
             ("settings_fault", "SETTINGS_", engine.SETTINGS_FAULTS[1:]),
             ("checkpoint_fault", "CHECKPOINT_", engine.CHECKPOINT_FAULTS[1:]),
             ("key", "KEY_", engine.KEYS[1:]),
         ):
-            found = re.search(f"enum tmx_{kind} {{(.*?)}};", HEADER, re.DOTALL)[1]
-            self.assertEqual(re.findall(f"TMX_{prefix}(.*) = ", found), [it.upper() for it in words])
-        for word, number in re.findall("^    TMX_([A-Z]+) = ([0-9]+)", HEADER, re.MULTILINE):
+            self.assertEqual(re.findall(f"TMX_{prefix}(.*) = ", numbers_of(kind)), [it.upper() for it in words])
+        for word, number in re.findall("TMX_([A-Z_]+) = ([0-9]+)", numbers_of("command") + numbers_of("status")):
             self.assertEqual(getattr(engine, word), int(number), word)
 
     def test_errors_without_a_word(self) -> None:

@@ -14,7 +14,7 @@ from .recording import Item
 from .settings import Settings
 
 # The numbers of include/tmx.h.
-EXTRACT, PACKETS, FIELDS, FRAMES, SUMMARY = range(5)
+EXTRACT, PACKETS, FIELDS, FRAMES, SUMMARY, BINARY_PACKETS, BINARY_FIELDS = range(7)
 DONE, ROOM, COMMAND, SETTINGS, CHECKPOINT, TOO_MANY, MEMORY, DEFINITION, APPLICATION, WHOLE, LONG = range(11)
 INPUTS = ("", "settings", "definition", "checkpoint")
 SETTINGS_FAULTS = ("", "toml", "unknown", "missing", "kind", "range")
@@ -53,6 +53,7 @@ class Answer(ctypes.Structure):
         ("checkpoint_length", ctypes.c_size_t),
         ("used", ctypes.c_size_t),
         ("strict", ctypes.c_uint32),
+        ("row_length", ctypes.c_uint32),
     ]
 
 

@@ -9,21 +9,21 @@ killed() {
     # guards: a-run-starts-from-its-inputs
     # guards: what-a-run-does-follows-the-plan
     # guards: a-run-with-ok-has-replaced-the-checkpoints-file
-    local command round more long=$folder/long.rec
+    local command word round more long=$folder/long.rec
     for _ in $(seq 600); do cat "$example/pass.rec"; done >"$long"
-    for command in packets extract fields split; do
-        more=""
-        [ $command != fields ] || more="--definition $example/attitude.csv --apid 101"
+    for command in packets "packets --binary" extract fields "fields --binary" split; do
+        read -r word more <<<"$command"
+        [ "$word" != fields ] || more+=" --definition $example/attitude.csv --apid 101"
         for round in $(seq "$ROUNDS"); do
-            killed_trial "$command in long steps, round $round" $command "$long" 50000 "$round" "$more"
-            killed_trial "$command in short steps, round $round" $command "$example/pass.rec" $((1 + round % 4 * 3)) "$round" "$more"
-            killed_trial "$command of a growing recording, round $round" $command "$example/pass.rec" 0 "$round" "$more"
+            killed_trial "$command in long steps, round $round" "$word" "$long" 50000 "$round" "$more"
+            killed_trial "$command in short steps, round $round" "$word" "$example/pass.rec" $((1 + round % 4 * 3)) "$round" "$more"
+            killed_trial "$command of a growing recording, round $round" "$word" "$example/pass.rec" 0 "$round" "$more"
         done
     done
     rm "$long"
     live_trials killed
     stopped
-    plan $((12 * ROUNDS + 2))
+    plan $((18 * ROUNDS + 2))
 }
 
 # The name of a trial, and the words of killed.py from the command on.

@@ -3,8 +3,11 @@ use Rattle.std.specs.Prelude.{◌≡◌, ◌≢◌, ◌⊎◌, ◌==◌, ◌≤�
 use Rattle.std.specs.Borrow.{Bor}
 use Rattle.tm_frame.specs.Rules.{Rules}
 use Rattle.tm_fields.specs.declared.definition.Definition.{Definition}
+use Rattle.tm_fields.specs.declared.rows.RowForm.{RowForm}
+use Rattle.tm_fields.specs.declared.rows.RowForm.TheVariants.{Text, Binary}
 use Rattle.tm_checkpoint.specs.Works.{JobState}
-use Rattle.tm_output.specs.declared.command.Command.TheVariants.{Fields}
+use Rattle.tm_output.specs.declared.command.Command.{Command}
+use Rattle.tm_output.specs.declared.command.Command.TheVariants.{Fields, BinaryFields}
 use Rattle.tm_library.specs.declared.request.Answer.{Answer}
 use Rattle.tm_library.specs.declared.request.Request.{Request}
 use Rattle.tm_library.specs.declared.request.Wanted.{Wanted}
@@ -31,6 +34,7 @@ refused_with n = record {
   checkpoint_length = 0;
   used = 0;
   strict = 0;
+  row_length = 0;
 }
 
 -- what `tmx --strict` ends with: 5 without a good frame of a chosen channel, else 4 where something is lost, else 0
@@ -51,6 +55,7 @@ done_with answer fits = record {
   checkpoint_length = answer.checkpoint;
   used = answer.used;
   strict = strict_status answer;
+  row_length = answer.row_length;
 }
 
 -- each room is large enough
@@ -93,19 +98,28 @@ abbrev pub IsGiven : Wanted → TmxRequest → List ℕ → List ℕ → List �
 IsGiven wanted request out report checkpoint result =
     IsAnsweredBy request.settings.now (λ rules. IsGivenBy rules (chunk_of request wanted) out report checkpoint result) result
 
--- by these settings, the rows of the application were given, or the definition is refused
-abbrev pub AreRowsGiven : Rules → TmxRequest → List ℕ → List ℕ → List ℕ → TmxAnswer → Type 0
-AreRowsGiven rules request out report checkpoint result =
+-- the form of the rows that a command of this number gives
+abbrev pub form_by_number : ℕ → RowForm
+form_by_number command = if command == 6 then Binary else Text
+
+-- what gives the rows of an application in a form
+abbrev pub rows_in : RowForm → Bor Definition → ℕ → Command
+rows_in Text definition application = Fields definition application
+rows_in Binary definition application = BinaryFields definition application
+
+-- by these settings, the rows of the application were given in a form, or the definition is refused
+abbrev pub AreRowsGiven : RowForm → Rules → TmxRequest → List ℕ → List ℕ → List ℕ → TmxAnswer → Type 0
+AreRowsGiven form rules request out report checkpoint result =
     WasRefused (IsDefinitionRefused request.definition.now) result
     ⊎ ((definition : Bor Definition) × AreFields request.definition.now definition.now
-    × IsGivenBy rules (chunk_of request (Packets (Fields definition request.application))) out report checkpoint result)
+    × IsGivenBy rules (chunk_of request (Packets (rows_in form definition request.application))) out report checkpoint result)
 
 -- applications have numbers up to 2047
-abbrev pub IsFieldsAnswer : TmxRequest → List ℕ → List ℕ → List ℕ → TmxAnswer → Type 0
-IsFieldsAnswer request out report checkpoint result =
+abbrev pub IsFieldsAnswer : RowForm → TmxRequest → List ℕ → List ℕ → List ℕ → TmxAnswer → Type 0
+IsFieldsAnswer form request out report checkpoint result =
     (2047 < request.application → result ≡ refused_with (with_status 8 0))
     × (request.application ≤ 2047
-    → IsAnsweredBy request.settings.now (λ rules. AreRowsGiven rules request out report checkpoint result) result)
+    → IsAnsweredBy request.settings.now (λ rules. AreRowsGiven form rules request out report checkpoint result) result)
 
 -- by these settings, the summary was written, where the room is large enough
 abbrev pub WasSummarized : Rules → TmxRequest → List ℕ → TmxAnswer → Type 0

@@ -1,14 +1,16 @@
 //! The call, and what crosses the border with it.
 
 ghost use Rattle.std.specs.Prelude.{◌≡◌, ◌≢◌, ◌⊎◌, ◌<◌, ◌≤◌, ◌==◌, Some, None, [], true, false, nat_le, not};
+ghost use Rattle.tm_fields.specs.declared.rows.RowForm.TheVariants.{Text, Binary};
 ghost use Rattle.tm_output.specs.declared.command.Command.TheVariants as command;
 ghost use Rattle.tm_library.specs.declared.request.Wanted.TheVariants.{Frames, Packets};
-ghost use Rattle.tm_c.specs.Answers.{AreRowsGiven, IsFieldsAnswer, IsGiven, IsGivenBy, IsSummarizedBy, IsSummaryAnswer, done_with, fit, refused_with, strict_status};
+ghost use Rattle.tm_c.specs.Answers.{AreRowsGiven, IsFieldsAnswer, IsGiven, IsGivenBy, IsSummarizedBy, IsSummaryAnswer, done_with, fit, form_by_number, refused_with, rows_in, strict_status};
 ghost use Rattle.tm_c.specs.Numbers.{with_status};
 
 use crate::numbers::{refusal_numbers, with_status};
 use crate::structs::{Numbers, TmxAnswer, TmxRequest};
 use std::alloc::Global;
+use tm_fields::{Definition, RowForm};
 use tm_library::{
     Answer, Request, Wanted, read_definition, read_settings, run_chunk, summarize_recording,
 };
@@ -30,6 +32,7 @@ fn refused_with(numbers: Numbers) -> TmxAnswer
         checkpoint_length: 0,
         used: 0,
         strict: 0,
+        row_length: 0,
     }
 }
 
@@ -59,6 +62,7 @@ fn done_with(answer: Answer, fits: bool) -> TmxAnswer
         checkpoint_length: answer.checkpoint,
         used: answer.used,
         strict: strict_status(answer),
+        row_length: answer.row_length,
     }
 }
 
@@ -82,12 +86,14 @@ fn wanted_of(number: u32) -> Option<Wanted<'static>>
     ensures extract { number ≡ 0 → result ≡ Some (Packets command.Extract) }
     ensures packets { number ≡ 1 → result ≡ Some (Packets command.Packets) }
     ensures frames { number ≡ 3 → result ≡ Some Frames }
-    ensures others { number ≢ 0 → number ≢ 1 → number ≢ 3 → result ≡ None }
+    ensures binary_packets { number ≡ 5 → result ≡ Some (Packets command.BinaryPackets) }
+    ensures others { number ≢ 0 → number ≢ 1 → number ≢ 3 → number ≢ 5 → result ≡ None }
 {
     match number {
         0 => Some(Wanted::Packets(Command::Extract)),
         1 => Some(Wanted::Packets(Command::Packets)),
         3 => Some(Wanted::Frames),
+        5 => Some(Wanted::Packets(Command::BinaryPackets)),
         _ => None,
     }
 }
@@ -150,6 +156,27 @@ fn answer_wanted(
     }
 }
 
+// The form of the rows that a command of this number gives.
+fn form_by_number(number: u32) -> RowForm
+    ensures { result ≡ form_by_number number }
+{
+    if number == 6 {
+        RowForm::Binary
+    } else {
+        RowForm::Text
+    }
+}
+
+// What gives the rows of an application in a form.
+fn rows_in(form: RowForm, definition: &Definition, application: u16) -> Command<'_>
+    ensures { result ≡ rows_in form definition.entry application }
+{
+    match form {
+        RowForm::Text => Command::Fields(definition, application),
+        RowForm::Binary => Command::BinaryFields(definition, application),
+    }
+}
+
 // Gives the rows of the application by these settings.
 fn answer_rows(
     alloc: Global,
@@ -160,11 +187,12 @@ fn answer_rows(
     checkpoint: &mut [u8],
 ) -> TmxAnswer
     requires { request.now.application ≤ 2047 }
-    ensures { AreRowsGiven settings.now request.now out.new report.new checkpoint.new result }
+    ensures { AreRowsGiven (form_by_number request.now.command) settings.now request.now out.new report.new checkpoint.new result }
 {
     match read_definition(alloc, request.definition) {
         Ok(definition) => {
-            let rows = Command::Fields(&definition, request.application as u16);
+            let form = form_by_number(request.command);
+            let rows = rows_in(form, &definition, request.application as u16);
             let wanted = Wanted::Packets(rows);
             let chunk = Request {
                 checkpoint: request.checkpoint,
@@ -186,7 +214,7 @@ fn answer_fields(
     report: &mut [u8],
     checkpoint: &mut [u8],
 ) -> TmxAnswer
-    ensures { IsFieldsAnswer request.now out.new report.new checkpoint.new result }
+    ensures { IsFieldsAnswer (form_by_number request.now.command) request.now out.new report.new checkpoint.new result }
 {
     if !is_application(request.application) {
         return refused_with(with_status(8, 0));
@@ -237,16 +265,20 @@ fn answer_request(
         → IsGiven (Packets command.Extract) request.now out.new report.new checkpoint.new result }
     ensures packets { request.now.command ≡ 1
         → IsGiven (Packets command.Packets) request.now out.new report.new checkpoint.new result }
-    ensures fields { request.now.command ≡ 2 → IsFieldsAnswer request.now out.new report.new checkpoint.new result }
+    ensures fields { request.now.command ≡ 2 → IsFieldsAnswer Text request.now out.new report.new checkpoint.new result }
     ensures frames { request.now.command ≡ 3 → IsGiven Frames request.now out.new report.new checkpoint.new result }
     ensures summary { request.now.command ≡ 4 → IsSummaryAnswer request.now out.new result }
-    ensures others { 4 < request.now.command → result ≡ refused_with (with_status 2 0) }
+    ensures binary_packets { request.now.command ≡ 5
+        → IsGiven (Packets command.BinaryPackets) request.now out.new report.new checkpoint.new result }
+    ensures binary_fields { request.now.command ≡ 6
+        → IsFieldsAnswer Binary request.now out.new report.new checkpoint.new result }
+    ensures others { 6 < request.now.command → result ≡ refused_with (with_status 2 0) }
 {
     if let Some(wanted) = wanted_of(request.command) {
         return answer_wanted(alloc, wanted, request, out, report, checkpoint);
     }
     match request.command {
-        2 => answer_fields(alloc, request, out, report, checkpoint),
+        2 | 6 => answer_fields(alloc, request, out, report, checkpoint),
         4 => answer_summary(alloc, request, out),
         _ => refused_with(with_status(2, 0)),
     }
@@ -267,13 +299,17 @@ pub extern "C" fn tmx_run(
     ensures packets { request.now.command ≡ 1
         → IsGiven (Packets command.Packets) request.now out.new report.new checkpoint.new answer.new }
     ensures fields { request.now.command ≡ 2
-        → IsFieldsAnswer request.now out.new report.new checkpoint.new answer.new }
+        → IsFieldsAnswer Text request.now out.new report.new checkpoint.new answer.new }
     ensures frames { request.now.command ≡ 3
         → IsGiven Frames request.now out.new report.new checkpoint.new answer.new }
     ensures summary { request.now.command ≡ 4 → IsSummaryAnswer request.now out.new answer.new }
+    ensures binary_packets { request.now.command ≡ 5
+        → IsGiven (Packets command.BinaryPackets) request.now out.new report.new checkpoint.new answer.new }
+    ensures binary_fields { request.now.command ≡ 6
+        → IsFieldsAnswer Binary request.now out.new report.new checkpoint.new answer.new }
 
     // There are no further commands.
-    ensures others { 4 < request.now.command → answer.new ≡ refused_with (with_status 2 0) }
+    ensures others { 6 < request.now.command → answer.new ≡ refused_with (with_status 2 0) }
     ensures status { result ≡ answer.new.status }
 {
     *answer = answer_request(alloc, request, out, report, checkpoint);

@@ -27,6 +27,7 @@ pub struct TmxAnswer {
     pub checkpoint_length: usize,
     pub used: usize,
     pub strict: u32,
+    pub row_length: u32,
 }
 
 /// A status, and what is wrong: the number of the fault, and the key, the column or the row that it is about. 0 where there is none.

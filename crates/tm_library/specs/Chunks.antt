@@ -5,6 +5,7 @@ use Rattle.std.specs.List.{concat}
 use Rattle.tm_frame.specs.declared.layout.LayoutParts.{LayoutParts}
 use Rattle.tm_frame.specs.Layout.{record_length_of}
 use Rattle.tm_frame.specs.Rules.{Rules}
+use Rattle.tm_fields.specs.Binary.{row_length}
 use Rattle.tm_fields.specs.Reading.{definition_of}
 use Rattle.tm_fields.specs.declared.field.Field.{Field}
 use Rattle.tm_settings.specs.Settings.{settings_from}
@@ -12,7 +13,7 @@ use Rattle.tm_faults.specs.declared.run.CheckpointFault.{CheckpointFault}
 use Rattle.tm_checkpoint.specs.Checkpoints.{checkpoint_of, resumed}
 use Rattle.tm_checkpoint.specs.Works.{JobState, Work, new_job}
 use Rattle.tm_output.specs.declared.command.Command.{Command}
-use Rattle.tm_output.specs.declared.command.Command.TheVariants.{Extract}
+use Rattle.tm_output.specs.declared.command.Command.TheVariants.{Extract, Fields, BinaryFields}
 use Rattle.tm_output.specs.declared.command.Ending.{Ending}
 use Rattle.tm_output.specs.declared.command.Ending.TheVariants.{Close, Keep}
 use Rattle.tm_tool.specs.Listing.{end_lines, record_lines}
@@ -118,6 +119,17 @@ used_octets false size octets = octets / size * size
 abbrev pub Holds : List ℕ → ℕ → List ℕ → Type 0
 Holds room n octets = (n ≡ length octets) × (n ≤ length room → take n room ≡ octets)
 
+-- how many octets each row in the binary form has by the definition that a command reads, 0 where it reads none
+abbrev pub row_length_by : Command → ℕ
+row_length_by (Fields definition application) = row_length definition.now
+row_length_by (BinaryFields definition application) = row_length definition.now
+row_length_by _ = 0
+
+-- likewise by what is wanted
+abbrev pub row_length_of : Wanted → ℕ
+row_length_of (Packets command) = row_length_by command
+row_length_of Frames = 0
+
 -- what a call gives of a chunk, from a job on, into three rooms
 pub record IsAnswer (wanted : Wanted) (last : Bool) (job : JobState) (octets : List ℕ) (answer : Answer) (out report checkpoint : List ℕ) : Type 0 where
   pub out_holds : Holds out answer.out (outs (given_pieces wanted last job octets))
@@ -127,6 +139,7 @@ pub record IsAnswer (wanted : Wanted) (last : Bool) (job : JobState) (octets : L
   pub used_are : answer.used ≡ used_octets last (size_of job.work) (length octets)
   pub good_is : answer.has_good_frame ≡ nat_lt 0 (chunk_totals wanted last job octets).good
   pub losses_is : answer.has_losses ≡ (chunk_totals wanted last job octets).has_losses
+  pub row_length_is : answer.row_length ≡ row_length_of wanted
 
 -- what a call gives of the summary of a whole recording
 pub record IsSummary (rules : Rules) (octets : List ℕ) (answer : Answer) (out : List ℕ) : Type 0 where
@@ -137,3 +150,4 @@ pub record IsSummary (rules : Rules) (octets : List ℕ) (answer : Answer) (out 
   pub used_are : answer.used ≡ length octets
   pub good_is : answer.has_good_frame ≡ has_good_frame rules.channels (summary_numbers rules octets)
   pub losses_is : answer.has_losses ≡ tells_loss (summary_numbers rules octets)
+  pub row_length_is : answer.row_length ≡ 0

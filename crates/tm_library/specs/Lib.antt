@@ -1,3 +1,4 @@
 pub mod Chunks
 pub mod Refusals
 pub mod Calls
+pub mod BinaryRows

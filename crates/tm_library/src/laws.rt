@@ -1,9 +1,15 @@
-//! A law of the definitions. This function makes no calls: its contract is the law.
+//! Laws of the definitions. These functions make no calls: their contracts are the laws.
 
 ghost use Rattle.std.specs.List.{concat};
-ghost use Rattle.std.specs.Prelude.{◌≡◌, ◌<◌, ◌^◌, ◌++◌, ℕ, Bool, true, List, [], length};
+ghost use Rattle.std.specs.Prelude.{◌≡◌, ◌<◌, ◌≤◌, ◌^◌, ◌++◌, ℕ, Bool, true, List, [], Ok, length};
 ghost use Rattle.tm_frame.specs.Layout.{record_length_of};
 ghost use Rattle.tm_frame.specs.Rules.{IsLimit, Rules};
+ghost use Rattle.tm_fields.specs.Binary.{row_length, row_octets};
+ghost use Rattle.tm_fields.specs.Numbers.{bits_in};
+ghost use Rattle.tm_fields.specs.Reading.{definition_of};
+ghost use Rattle.tm_fields.specs.Rows.{bits_needed, row_of};
+ghost use Rattle.tm_fields.specs.declared.field.Field.{Field};
+ghost use Rattle.tm_fields.specs.declared.lead.Lead.{Lead};
 ghost use Rattle.tm_reassembly.specs.Valid.{AllOctets};
 ghost use Rattle.tm_checkpoint.specs.Works.{new_job};
 ghost use Rattle.tm_output.specs.declared.command.Command.{Command};
@@ -14,6 +20,7 @@ ghost use Rattle.tm_output.specs.Records.{records};
 ghost use Rattle.tm_tool.specs.HeadPieces.{head_pieces};
 ghost use Rattle.tm_tool.specs.Resuming.{run_pieces};
 ghost use Rattle.tm_library.specs.declared.request.Wanted.TheVariants.{Packets, Frames};
+ghost use Rattle.tm_library.specs.BinaryRows.{IsLead, text_of_row};
 ghost use Rattle.tm_library.specs.Calls.{pieces_of_calls};
 ghost use Rattle.tm_library.specs.Chunks.{chunk_ending};
 
@@ -33,4 +40,15 @@ pub fn chunks()
         AllOctets (records (record_length_of rules.layout) (first ++ concat chunks)) →
         length (records (record_length_of rules.layout) (first ++ concat chunks)) < 2 ^ 32 →
         pieces_of_calls Frames true rules [] first chunks ≡ line_pieces (listing rules.layout (first ++ concat chunks)) }
+{}
+
+/// Rows: the octets of a row are read back by the fields of the definition alone. Their values, printed, are the row of text: each
+/// `uint` and `int` with its sign, each `float` and each `str`. All rows have one length.
+#[tactic(auto, using(crate::proofs::RowLemmas::row_back, crate::proofs::SoundFields::definition_sound))]
+pub fn rows()
+    ensures text { (text : List ℕ) (fields : List Field) (lead : Lead) (packet : List ℕ) →
+        definition_of text ≡ Ok fields → bits_needed fields ≤ bits_in packet → IsLead lead →
+        text_of_row fields (row_octets fields lead packet) ≡ row_of fields lead packet }
+    ensures length { (fields : List Field) (lead : Lead) (packet : List ℕ) →
+        length (row_octets fields lead packet) ≡ row_length fields }
 {}

@@ -6,7 +6,7 @@ ghost use Rattle.tm_output.specs.Outputs.{outs, reports};
 ghost use Rattle.tm_output.specs.Records.{records};
 ghost use Rattle.tm_tool.specs.RecordingPieces.{worked};
 ghost use Rattle.tm_tool.specs.Runs.{kept_of};
-ghost use Rattle.tm_library.specs.Chunks.{Begins, Holds, IsAnswer, chunk_ending, chunk_totals, given_pieces, kept_octets, size_of, used_octets};
+ghost use Rattle.tm_library.specs.Chunks.{Begins, Holds, IsAnswer, chunk_ending, chunk_totals, given_pieces, kept_octets, row_length_of, size_of, used_octets};
 ghost use Rattle.tm_library.specs.Refusals.{IsChunkRefused, IsRunRefused};
 
 use crate::Refusal;
@@ -57,6 +57,8 @@ pub struct Answer {
     pub has_good_frame: bool,
     /// Their report has a line that tells a loss: any but `vca`, `group` and `short`. For a summary: its numbers tell one.
     pub has_losses: bool,
+    /// How many octets each row of the definition has in the binary form; 0 where no definition is wanted.
+    pub row_length: u32,
 }
 
 // Writes the checkpoint of a job into a room, if it is large enough, and answers how many octets it has.
@@ -84,6 +86,18 @@ fn used_octets(last: bool, size: usize, octets: usize) -> usize
     ensures most { result ≤ octets }
 {
     if last { octets } else { octets / size * size }
+}
+
+// How many octets each row in the binary form has by the definition that is wanted: 0 where none is.
+fn row_length(wanted: Wanted<'_>) -> u32
+    ensures { result ≡ row_length_of wanted.entry }
+{
+    match wanted {
+        Wanted::Packets(Command::Fields(definition, _)) => definition.row_length(),
+        Wanted::Packets(Command::BinaryFields(definition, _)) => definition.row_length(),
+        Wanted::Packets(Command::Extract | Command::Packets | Command::BinaryPackets) => 0,
+        Wanted::Frames => 0,
+    }
 }
 
 // Gives what is wanted of a chunk that follows what the job has done.
@@ -164,5 +178,6 @@ pub fn run_chunk(
         used: used_octets(request.last, size, request.octets.len()),
         has_good_frame: given.totals.good > 0,
         has_losses: given.totals.has_losses,
+        row_length: row_length(request.wanted),
     })
 }

@@ -10,11 +10,11 @@ use std::alloc::Global;
 use tm_devices::Room;
 use tm_tool::{RunFault, Settings, Summed, sum_up};
 
-// What a summary answers: there is no report and no checkpoint, and all octets are used.
+// What a summary answers: there is no report, no checkpoint and no definition, and all octets are used.
 fn whole_answer(summed: Summed, out: usize, octets: &[u8]) -> Answer
     ensures records { result.records ≡ summed.records }
     ensures out { result.out ≡ out }
-    ensures others { (result.report ≡ 0) × (result.checkpoint ≡ 0) }
+    ensures others { (result.report ≡ 0) × (result.checkpoint ≡ 0) × (result.row_length ≡ 0) }
     ensures used { result.used ≡ length octets.now }
     ensures told { (result.has_good_frame ≡ summed.has_good_frame) × (result.has_losses ≡ summed.has_losses) }
 {
@@ -26,6 +26,7 @@ fn whole_answer(summed: Summed, out: usize, octets: &[u8]) -> Answer
         used: octets.len(),
         has_good_frame: summed.has_good_frame,
         has_losses: summed.has_losses,
+        row_length: 0,
     }
 }
 

@@ -1,0 +1,5 @@
+use Rattle.tm_library.proofs.RowLemmas.{row_size}
+use Rattle.tm_library.proofs.laws.rows.Goals as goal
+
+pub returns-clause-length : goal.returns-clause-length
+returns-clause-length c = row_size

@@ -4,6 +4,7 @@
 - Each name that the definitions in crates/*/specs/ give stands in one file of them alone. Lemmas that stand there are names too. Fields of
   records and variants are not: they are told apart by what stands before them.
 - Each type of crates/*/src/ stands in one crate alone, but for those that several crates have to have. Types for tests are left out.
+- No definition has the name of a type, unless it is what that type is seen as.
 - No function of crates/*/src/ has a name of a kind that says too little: `make_job`, `write_item_line`, `take_next`, `copied`.
 - No comment of crates/ has one of a few phrases that have to be read twice, a sentence that begins with "Of", or one of over 30 words.
 
@@ -34,6 +35,10 @@ FUNCTION = re.compile(r"^\s*(?:pub(?:\(\w+\))? )?(?:const )?(?:unsafe )?fn (\w+)
 
 # Each crate that runs out of memory says so by its own type.
 SHARED_TYPES = {"NoMemory"}
+
+# What contracts see of these types has their names. The next two still name a type, and in definitions another thing.
+SEEN_TYPES = {"Item", "Rules", "Tail"}
+OTHER_THINGS = {"Counts", "Reading"}
 FOR_TESTS = ("tm_memory", "tm_tests", "tm_program_tests")
 
 # Names that leave open what a function does, or what its result is. Each is followed by those that may stay.
@@ -105,6 +110,16 @@ def shared_types():
         yield "no types were found"
 
 
+def names_of_types():
+    types = by_name((name, path) for path, text in sources("*/src/*.rt") for name in TYPE.findall(text))
+    for path, text in sources("*/specs/**/*.antt"):
+        for name in names_in(text):
+            if name in types and name not in SEEN_TYPES | OTHER_THINGS:
+                yield f"{name} is defined in {path}, and is a type of {' and '.join(map(str, types[name]))}"
+    for name in sorted((SEEN_TYPES | OTHER_THINGS) - types.keys()):
+        yield f"{name} may be a type and a definition, and is no type"
+
+
 def vague_functions():
     functions = by_name((name, path) for path, text in sources("*/src/*.rt") for name in FUNCTION.findall(text))
     for name, several in sorted(functions.items()):
@@ -146,6 +161,7 @@ def hard_comments():
 LOOKS = {
     "each name of a definition is defined in one file of specs/": shared_definitions,
     "each type stands in one crate": shared_types,
+    "no definition has the name of a type that is another thing": names_of_types,
     "each function's name says what it does or gives": vague_functions,
     "each comment is plain": hard_comments,
 }

@@ -21,7 +21,7 @@ pub(crate) fn usage_text(alloc: Global, refusal: &[u8]) -> Said {
     {
         return Ok(String::from_str(alloc, "a run reads one recording; join them by cat")?);
     }
-    // The value may hold anything, so the option comes behind the last of these words.
+    // The value may hold anything, so the option comes after the last of these words.
     let (option, least, most) = match refusal.rsplit_once("' for '--") {
         Some((_, rest)) if rest.starts_with("stop-after ") => ("stop-after", 1u32, u32::MAX),
         Some((_, rest)) if rest.starts_with("apid ") => ("apid", 0, 2047),

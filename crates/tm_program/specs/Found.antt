@@ -27,7 +27,7 @@ use Rattle.tm_arguments.specs.declared.request.Action.TheVariants.{Frames, Packe
 use Rattle.tm_arguments.specs.declared.request.Plan.{Plan}
 use Rattle.tm_program.specs.declared.outcome.Found.{Found}
 use Rattle.tm_program.specs.declared.outcome.Found.TheVariants as found
-use Rattle.tm_program.specs.declared.outcome.Outcome.{Outcome}
+use Rattle.tm_program.specs.declared.outcome.ProgramOutcome.{ProgramOutcome}
 
 -- ---- where the run of a plan begins and ends
 
@@ -89,5 +89,5 @@ Finds p (found.Summary summed) = (p.action ≡ Summary) × IsOfSummary summed
 Finds p (found.Packets records totals) = HasTotals p totals
 
 -- so of a plan whose status may say what was lost
-abbrev pub HasFound : Plan → Outcome → Type 0
+abbrev pub HasFound : Plan → ProgramOutcome → Type 0
 HasFound p outcome = (outcome.strict ≡ p.strict) × Finds p outcome.found

@@ -94,7 +94,7 @@ fn store_checkpoint<'p, R: Files + AllocGlobal>(
     }
 }
 
-// What a job has found that did this, where so many records were done before.
+// What a job has found that did this, where this many records were done before.
 fn findings_of(done: &Done, before: u32) -> Found
     ensures { FindsDone done.now result }
 {

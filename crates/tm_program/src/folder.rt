@@ -1,12 +1,11 @@
 //! Packets to a file for each application: the folder's files, and what splitting ends with.
 
-ghost use Rattle.std.specs.Prelude.{◌≡◌, ◌≢◌, ◌⊎◌, [], None, Ok, Some, IfErr, IfOk, OnOk, is_some, option_map};
+ghost use Rattle.std.specs.Prelude.{◌≡◌, ◌≢◌, ◌⊎◌, [], Ok, IfErr, IfOk, OnOk, is_some};
 ghost use Rattle.tm_files.specs.code.Files.{IsFileFault, IsRunFault};
 ghost use Rattle.tm_program.specs.code.Blames.{IsBlamedBeside, IsPutFault, IsSplitEnd, held_fault_of};
 ghost use Rattle.tm_program.specs.code.Endings.{IsDone};
 ghost use Rattle.tm_program.specs.code.Faults.{IsFolderFault};
 ghost use Rattle.tm_program.specs.code.Tasks.{folder_texts};
-ghost use Rattle.tm_split_files.specs.Names.{file_in};
 ghost use Rattle.tm_split_files.specs.Shelves.{HoldsNone};
 
 use std::alloc::Global;
@@ -15,7 +14,7 @@ use tm_arguments::Plan;
 use tm_faults::ToolFault;
 use tm_file_identity::FileIdentities;
 use tm_files::file_fault;
-use tm_split_files::{FileShelf, ShelfFault, name_in};
+use tm_split_files::{FileShelf, RefusedPut, ShelfFault, name_in};
 use tm_tool::{BufferedSource, Done, Drain, Ending, Job, Octets, RunFault, split};
 
 // The files for the applications in this folder, appended to if the plan resumes a job. None is one of the run's other
@@ -40,22 +39,21 @@ pub(crate) fn make_shelf<'a, R: Files + AllocGlobal>(
     }
 }
 
-// The fault of a put into the folder that the shelf refused.
-fn fault_of_put<R: Files + AllocGlobal>(
-    alloc: Global,
-    dir: &str,
-    shelf: &FileShelf<'_, R>,
-) -> ToolFault
-    ensures fault { IsPutFault shelf.now.out_of_memory (option_map (file_in dir.now) shelf.now.clashing) result }
+// The fault of the last put into the folder, which the shelf refused.
+fn fault_of_put(alloc: Global, dir: &str, put: Option<RefusedPut>) -> ToolFault
+    ensures fault { IsPutFault dir.now put result }
     ensures refused { IsRunFault result ⊎ IsFolderFault dir.now result }
 {
-    match shelf.clashing() {
-        _ if shelf.out_of_memory() => ToolFault::Run(RunFault::NoMemory),
-        Some(application) => match name_in(alloc, dir, application) {
+    let Some(put) = put else {
+        return ToolFault::Run(RunFault::Write);
+    };
+    match put.fault {
+        ShelfFault::NoMemory => ToolFault::Run(RunFault::NoMemory),
+        ShelfFault::NotWritten => ToolFault::Run(RunFault::Write),
+        ShelfFault::Clashes => match name_in(alloc, dir, put.application) {
             Ok(name) => ToolFault::File(Octets::new(name.into_bytes())),
             Err(_) => ToolFault::Run(RunFault::NoMemory),
         },
-        None => ToolFault::Run(RunFault::Write),
     }
 }
 
@@ -70,17 +68,17 @@ fn fault_of_held(fault: ShelfFault) -> RunFault
 }
 
 // What splitting into the folder ends with, once what the shelf holds is written.
-fn split_end<R: Files + AllocGlobal>(
+fn split_end(
     alloc: Global,
     dir: &str,
-    shelf: &FileShelf<'_, R>,
+    put: Option<RefusedPut>,
     done: Result<Done, RunFault>,
     written: Result<(), ShelfFault>,
 ) -> Result<Done, ToolFault>
     ensures done { IfOk result (λ d. done ≡ Ok d) }
     ensures written { OnOk result (written ≡ Ok tt) }
     ensures refused { IfErr result (λ fault. IsRunFault fault ⊎ IsFolderFault dir.now fault) }
-    ensures end { IsSplitEnd done written shelf.now.out_of_memory (option_map (file_in dir.now) shelf.now.clashing) result }
+    ensures end { IsSplitEnd done written dir.now put result }
 {
     match (done, written) {
         (Ok(done), Ok(())) => Ok(done),
@@ -88,7 +86,7 @@ fn split_end<R: Files + AllocGlobal>(
             drop(done);
             Err(ToolFault::Run(fault_of_held(fault)))
         }
-        (Err(RunFault::Write), _) => Err(fault_of_put(alloc, dir, shelf)),
+        (Err(RunFault::Write), _) => Err(fault_of_put(alloc, dir, put)),
         (Err(fault), _) => Err(ToolFault::Run(fault)),
     }
 }
@@ -113,5 +111,5 @@ pub(crate) fn split_packets<R: Files + AllocGlobal, S: BufferedSource, V: Drain>
     let dir = shelf.dir();
     let done = split(alloc, job, source, shelf, report, ending);
     let written = shelf.write_held();
-    split_end(alloc, dir, shelf, done, written)
+    split_end(alloc, dir, shelf.last_refused(), done, written)
 }

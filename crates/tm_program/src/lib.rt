@@ -8,7 +8,7 @@ mod outcome;
 mod steps;
 mod task;
 
-pub use outcome::{Found, Outcome};
+pub use outcome::{Found, ProgramOutcome};
 pub use steps::run;
 pub use tm_faults::{NoMemory, ToolFault, UsageFault, fault_line, status};
 pub use tm_tool::{Listed, Octets, RunFault, Summed, Totals};

@@ -19,7 +19,7 @@ pub enum Found {
 
 /// What came of a run that is done.
 #[derive(Clone, Copy, Debug, PartialEq, Eq)]
-pub struct Outcome {
+pub struct ProgramOutcome {
     /// What it found.
     pub found: Found,
     /// The status says what was lost.
@@ -30,7 +30,7 @@ pub struct Outcome {
     pub has_all_channels: bool,
 }
 
-impl Outcome {
+impl ProgramOutcome {
     // It had a good frame, of a chosen channel if it is no list.
     fn has_good_frame(self) -> bool
         ensures { result ≡ found_good_frame self.found }

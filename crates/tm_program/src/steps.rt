@@ -16,7 +16,7 @@ ghost use Rattle.tm_program.specs.Program.{IsAsked, MayCome, MayEnd};
 use crate::checkpoint_file::{begin_checkpoint, choose_ending, end_checkpoint, make_job};
 use crate::folder::{make_shelf, split_packets};
 use crate::inputs::{Inputs, prepare_inputs};
-use crate::outcome::{Finished, Found, Outcome};
+use crate::outcome::{Finished, Found, ProgramOutcome};
 use crate::task::{Destination, JobInputs, Overview, Task};
 use std::alloc::Global;
 use std::io::{self, BufWriter, Write};
@@ -233,7 +233,7 @@ fn run_plan<R: Files + Input + Print + AllocGlobal, E: Write + Drop>(
     rt: &R,
     plan: &Plan,
     errors: &mut E,
-) -> Result<Outcome, ToolFault>
+) -> Result<ProgramOutcome, ToolFault>
     requires { HasRequired plan.now }
     ensures ok { IfOk result (λ outcome. AreClear plan.now × HasFound plan.now outcome) }
     ensures refused { IfErr result (MayCome plan.now) }
@@ -252,7 +252,7 @@ fn run_plan<R: Files + Input + Print + AllocGlobal, E: Write + Drop>(
     let has_all_channels = settings.channels().mask() == u8::MAX;
     drop(settings);
     match finished {
-        Ok(finished) => Ok(Outcome {
+        Ok(finished) => Ok(ProgramOutcome {
             found: finished.into_found(),
             strict: plan.strict,
             reports_to_errors: writes_errors(plan),
@@ -273,7 +273,7 @@ pub fn run<R: Files + Input + Print + AllocGlobal, E: Write + Drop>(
     rt: &R,
     arguments: Vec<String>,
     mut errors: E,
-) -> Result<Outcome, ToolFault>
+) -> Result<ProgramOutcome, ToolFault>
     ensures ok { IfOk result (λ outcome. (p : Plan) × IsAsked (map string_bytes arguments.items) p × AreClear p
         × HasFound p outcome) }
     ensures refused { IfErr result (MayEnd (map string_bytes arguments.items)) }

@@ -49,7 +49,7 @@ pub(crate) enum PacketForm {
     Octets,
     /// By a line.
     Line,
-    /// By its octets, behind those that tell where it was found.
+    /// By its octets, after those that tell where it was found.
     Binary,
     /// By a row of the definition's fields, if it is of this application.
     Row(Definition, u16, RowForm),

@@ -4,11 +4,11 @@ use crate::arguments::owned_strings;
 use std::fs::{self, File};
 use std::io::{self, Write};
 use std::test::Fail;
-use tm_program::{Outcome, RunFault, ToolFault, fault_line, run};
+use tm_program::{ProgramOutcome, RunFault, ToolFault, fault_line, run};
 use tm_settings::{Key, SettingsFault};
 
 // Does what these arguments ask for, and forgets the report.
-fn run_with(rt: &HostRuntime, arguments: &[&str]) -> Result<Result<Outcome, ToolFault>, Fail> {
+fn run_with(rt: &HostRuntime, arguments: &[&str]) -> Result<Result<ProgramOutcome, ToolFault>, Fail> {
     let alloc = rt.alloc();
     let arguments = owned_strings(alloc, arguments).ok_or("words")?;
     Ok(run(rt, arguments, Vec::new(alloc)))

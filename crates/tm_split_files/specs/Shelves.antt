@@ -2,6 +2,7 @@
 use Rattle.std.specs.Prelude.{◌≡◌, ◌≢◌, ◌<◌, ◌++◌, ◌⊎◌, ℕ, Bool, List, [], Option, Some, Vec, map, option_map, slice_get}
 use Rattle.tm_file_identity.specs.declared.identities.FileIdentities.{FileIdentities}
 use Rattle.tm_split_files.specs.declared.files.ShelfFault.{ShelfFault}
+use Rattle.tm_split_files.specs.declared.refusals.RefusedPut.{RefusedPut}
 
 -- a shelf of files
 pub record ShelfState : Type 0 where
@@ -19,10 +20,8 @@ pub record ShelfState : Type 0 where
   pub octets : ℕ
   -- how many puts were refused, up to 2^64 - 1
   pub refused : ℕ
-  -- the last put that was refused was refused because memory ran out
-  pub out_of_memory : Bool
-  -- the application of that put, where it was so since its file is another file of the run
-  pub clashing : Option ℕ
+  -- the last put that was refused, if there is one
+  pub last_refused : Option RefusedPut
   -- why a file was not written out, until a call has told it
   pub unwritten : Option ShelfFault
   -- what the names of the run's other files stand for
@@ -36,7 +35,7 @@ buffer_octets buffers = map (λ octets. octets.items) buffers
 abbrev pub HoldsNone : List (List ℕ) → Type 0
 HoldsNone held = (application : ℕ) → application < 2048 → slice_get held application ≡ Some []
 
--- these octets are held behind those of their application, and of the others the same as before
+-- these octets are held after those of their application, and of the others the same as before
 abbrev pub IsAdded : List (List ℕ) → List (List ℕ) → ℕ → List ℕ → Type 0
 IsAdded old new application added =
     (slice_get new application ≡ option_map (λ octets. octets ++ added) (slice_get old application))
@@ -57,7 +56,7 @@ abbrev pub IsKeptOrEmptied : List (List ℕ) → List (List ℕ) → ℕ → Typ
 IsKeptOrEmptied old new application = (slice_get new application ≡ slice_get old application) ⊎ (slice_get new application ≡ Some [])
 
 -- What is held once a put is refused. For this application it is what was held before, or none of it, or that with these octets
--- behind. For each other one it is what was held before, or none of it.
+-- after it. For each other one it is what was held before, or none of it.
 abbrev pub IsRefused : List (List ℕ) → List (List ℕ) → ℕ → List ℕ → Type 0
 IsRefused old new application added =
     (IsKeptOrEmptied old new application ⊎ (slice_get new application ≡ option_map (λ octets. octets ++ added) (slice_get old application)))

@@ -40,7 +40,7 @@ pub fn name_in(alloc: Global, dir: &str, application: usize) -> Result<String, A
     format!(in alloc; "{dir}/apid-{application:04}.pkt")
 }
 
-// Remembers the identity of a file that was made, behind those of the others. It is refused only if memory runs out.
+// Remembers the identity of a file that was made, after those of the others. It is refused only if memory runs out.
 fn remember(made: &mut Vec<FileIdentity>, identity: FileIdentity) -> Result<(), ShelfFault>
     ensures made { OnOk result (made.new.items ≡ made.old.items ++ (identity ∷ [])) }
     ensures count { OnOk result (vec_len made.new ≡ vec_len made.old + 1) }
@@ -165,7 +165,7 @@ impl<R: Files + AllocGlobal> Folder<'_, R> {
         Ok(())
     }
 
-    // Opens the file of an application, to write behind what it has.
+    // Opens the file of an application, to append to it.
     fn open(&self, application: usize) -> Result<R::File, ShelfFault> {
         let name = self.name_of(application)?;
         match OpenOptions::new().append(true).open(self.rt, name.as_str()) {
@@ -174,7 +174,7 @@ impl<R: Files + AllocGlobal> Folder<'_, R> {
         }
     }
 
-    // Writes what is held of an application behind what its file has, and then these octets. None is held any more. It stands apart,
+    // Appends what is held of an application to its file, and then these octets. None is held any more. It stands apart,
     // since most octets are held.
     #[inline(never)]
     fn write_one(
@@ -202,7 +202,7 @@ impl<R: Files + AllocGlobal> Folder<'_, R> {
         self.write_one(application, held, &[])
     }
 
-    // Holds octets of an application behind those that are held of it, or writes all of these where they are many.
+    // Holds octets of an application after those that are held of it, or writes all of these where they are many.
     #[inline(always)]
     fn add(&self, application: usize, held: &mut Vec<u8>, octets: &[u8]) -> Result<(), ShelfFault>
         ensures held { OnOk result ((held.new.items ≡ held.old.items ++ octets.now) ⊎ (held.new.items ≡ [])) }
@@ -235,7 +235,7 @@ impl<R: Files + AllocGlobal> Folder<'_, R> {
     }
 }
 
-// As many empty buffers as there are applications.
+// An empty buffer for each application.
 #[tactic(auto, using(crate::proofs::BufferLemmas::none_of_next))]
 fn empty_buffers(alloc: Global) -> Result<Vec<Vec<u8>>, AllocError>
     ensures count { IfOk result (λ held. vec_len held ≡ 2048) }

@@ -6,4 +6,5 @@ mod refusals;
 mod shelf;
 
 pub use files::{ShelfFault, name_in};
+pub use refusals::RefusedPut;
 pub use shelf::FileShelf;

@@ -2,11 +2,11 @@
 
 ghost use Rattle.std.specs.Prelude.{◌≡◌, ◌≢◌, ◌<◌, ◌+◌, ◌⊎◌, ℕ, None, Some, true, false, length, slice_get, replicate, Err, IfErr, IfOk, IfSome, MatchResult, OnErr, OnOk};
 ghost use Rattle.tm_devices.specs.Devices.{Counts, Puts, PutsPrefix, PutsNone};
-ghost use Rattle.tm_split_files.specs.ShelfFaults.{is_out_of_memory, clashing_application};
+ghost use Rattle.tm_split_files.specs.ShelfFaults.{is_out_of_memory};
 ghost use Rattle.tm_split_files.specs.Shelves.{HoldsNone, HoldsSame, IsAdded, IsEmptied, IsKeptOrEmptied, IsRefused};
 
 use crate::files::{Folder, HeldFiles, ShelfFault};
-use crate::refusals::Refusals;
+use crate::refusals::{RefusedPut, Refusals};
 use std::alloc::AllocError;
 use std::marker::Model;
 use std::rt::Files;
@@ -35,8 +35,7 @@ impl<'a, R> Model for FileShelf<'a, R> {
       held = buffer_octets s.files.held.items;
       octets = s.files.octets;
       refused = s.refusals.count;
-      out_of_memory = s.refusals.out_of_memory;
-      clashing = s.refusals.clashing;
+      last_refused = s.refusals.last;
       unwritten = s.files.unwritten;
       identities = s.files.folder.identities.now;
     } };
@@ -54,8 +53,7 @@ impl<'a, R: Files + AllocGlobal> FileShelf<'a, R> {
     ) -> Result<Self, AllocError>
         ensures folder { IfOk result (λ s. (s.folder ≡ dir.entry.now) × (s.goes_on ≡ goes_on)
             × (s.identities ≡ identities.entry.now)) }
-        ensures counts { IfOk result (λ s. (s.octets ≡ 0) × (s.refused ≡ 0) × (s.out_of_memory ≡ false) × (s.clashing ≡ None)
-            × (s.unwritten ≡ None)) }
+        ensures counts { IfOk result (λ s. (s.octets ≡ 0) × (s.refused ≡ 0) × (s.last_refused ≡ None) × (s.unwritten ≡ None)) }
         ensures begun { IfOk result (λ s. (s.begun ≡ replicate 2048 false) × (s.made ≡ 0)) }
         ensures held { IfOk result (λ s. HoldsNone s.held) }
     {
@@ -72,11 +70,11 @@ impl<'a, R: Files + AllocGlobal> FileShelf<'a, R> {
         })
     }
 
-    /// The last refused put was refused because memory ran out.
-    pub fn out_of_memory(&self) -> bool
-        ensures { result ≡ self.now.out_of_memory }
+    /// The last put that was refused, if there is one.
+    pub fn last_refused(&self) -> Option<RefusedPut>
+        ensures { result ≡ self.now.last_refused }
     {
-        self.refusals.out_of_memory
+        self.refusals.last
     }
 
     /// The name of the files' folder.
@@ -84,13 +82,6 @@ impl<'a, R: Files + AllocGlobal> FileShelf<'a, R> {
         ensures { result.now ≡ self.now.folder }
     {
         self.files.dir()
-    }
-
-    /// The application of the last refused put, if its file is another file of the run.
-    pub fn clashing(&self) -> Option<usize>
-        ensures { result ≡ self.now.clashing }
-    {
-        self.refusals.clashing
     }
 
     /// Writes all that is held. If a file can't be written, the others still are. A fault of `write_out` that no put has told is told first.
@@ -117,10 +108,8 @@ impl<R: Files + AllocGlobal> Shelf for FileShelf<'_, R> {
         ensures whole { OnOk result (Puts None None application octets.now) }
         ensures prefix { OnErr result (PutsPrefix None None application octets.now) }
         ensures counts { Counts self.old.refused self.new.refused result }
-        ensures out_of_memory { MatchResult result (λ _. self.new.out_of_memory ≡ self.old.out_of_memory)
-            (λ fault. self.new.out_of_memory ≡ is_out_of_memory fault) }
-        ensures clashing { MatchResult result (λ _. self.new.clashing ≡ self.old.clashing)
-            (λ fault. self.new.clashing ≡ clashing_application application fault) }
+        ensures last { MatchResult result (λ _. self.new.last_refused ≡ self.old.last_refused)
+            (λ fault. self.new.last_refused ≡ Some (record { application = application; fault = fault })) }
         ensures begun { OnOk result (slice_get self.new.begun application ≡ Some true) }
         ensures others { (other : ℕ) → other ≢ application → slice_get self.new.begun other ≡ slice_get self.old.begun other }
         ensures held { OnOk result (((IsAdded self.old.held self.new.held application octets.now

@@ -66,7 +66,7 @@ fn checkpoints_with_a_bit_changed(rt: HostRuntime) {
     }
 }
 
-// Each front is refused, as too short below so many octets.
+// Each front is refused, as too short below this many octets.
 fn prefixes_are_refused(alloc: Global, text: &str, settings: &str, least: usize) -> Option<bool> {
     let settings = settings_of(alloc, settings)?;
     let octets = octets_of(alloc, text)?;
@@ -124,7 +124,7 @@ fn changed_frames(alloc: Global) -> Result<Vec<u8>, AllocError> {
     Ok(recording)
 }
 
-// The lines of so many bad frames.
+// The lines of this many bad frames.
 fn bad_lines(alloc: Global, records: u32) -> Result<String, AllocError> {
     let mut lines = String::new(alloc);
     for record in 0..records {

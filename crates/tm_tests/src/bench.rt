@@ -42,7 +42,7 @@ fn begin_drain(drain: &mut MemoryDrain, fails_at: u64) {
     drain.passed = 0;
 }
 
-// What is left of octets behind the puts of a shelf. Each put has the application of its own header.
+// What is left of octets after the puts of a shelf. Each put has the application of its own header.
 fn behind_puts<'o>(shelf: &MemoryShelf, octets: &'o [u8]) -> Option<&'o [u8]> {
     let mut rest = octets;
     for put in &shelf.puts {

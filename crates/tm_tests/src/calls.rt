@@ -25,7 +25,7 @@ pub(crate) fn calls_until(calls: &[Call], device: Device) -> (u64, usize) {
     (count, octets)
 }
 
-// The first line of a text with its end, and the text behind it.
+// The first line of a text with its end, and the text after it.
 fn cut_line(text: &[u8]) -> (&[u8], &[u8]) {
     for (index, octet) in text.iter().enumerate() {
         if *octet == b'\n' {
@@ -56,12 +56,12 @@ struct Calls<'l> {
     has_octets: bool,
     has_puts: bool,
     has_rows: bool,
-    // The octets of packets that lie end to end go out at once. While such packets are followed they have so many octets so far.
+    // The octets of packets that lie end to end go out at once. While such packets are followed they have this many octets so far.
     has_spans: bool,
     span: Option<usize>,
-    // At most so many octets are read per call, and written.
+    // At most this many octets are read per call, and written.
     per_call: usize,
-    // The octets of a record, and of the rest behind all records.
+    // The octets of a record, and of the rest after all records.
     record: usize,
     rest: usize,
     // The devices that are flushed: before each read but the first, where the source may wait, and at the end.
@@ -74,13 +74,13 @@ struct Calls<'l> {
 }
 
 impl Calls<'_> {
-    // A call that moves so many octets.
+    // A call that moves this many octets.
     fn push(&mut self, device: Device, octets: usize) -> Result<(), AllocError> {
         self.list.push(Call { device, octets })?;
         Ok(())
     }
 
-    // As many calls as it takes to move so many octets. A put moves them all.
+    // The calls that it takes to move this many octets. A put moves them all.
     fn push_all(&mut self, device: Device, octets: usize) -> Result<(), AllocError> {
         let most = if device == Device::Out && self.has_puts {
             octets.max(1)
@@ -106,7 +106,7 @@ impl Calls<'_> {
         Ok(())
     }
 
-    // The same behind a record, where the source may wait for the next one.
+    // The same after a record, where the source may wait for the next one.
     fn flush_before_waiting(&mut self) -> Result<(), AllocError> {
         if self.waits && self.has_read {
             self.flush()?;

@@ -96,7 +96,7 @@ fn alter(alloc: Global, prefix: usize, other: &[u8], back: (usize, usize)) -> Op
     Some(altered)
 }
 
-// How these octets are refused, with a right check behind them where it is asked for.
+// How these octets are refused, with a right check after them where it is asked for.
 fn refusal(alloc: Global, octets: Option<Vec<u8>>, is_checked: bool) -> Option<CheckpointFault> {
     let mut octets = octets?;
     if is_checked {

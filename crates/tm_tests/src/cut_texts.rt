@@ -7,7 +7,7 @@ use tm_frame::{LayoutParts, Presence};
 use tm_reassembly::Channels;
 use tm_tool::{Key, Settings, SettingsFault};
 
-// What a table says of a text's front of so many octets. A row has the greatest length that it is for, and begins where the one
+// What a table says of a text's front of this many octets. A row has the greatest length that it is for, and begins where the one
 // before ends.
 fn answer_at<A: Copy>(table: &[(usize, A)], len: usize) -> Option<A> {
     for &(last, answer) in table {
@@ -107,7 +107,7 @@ fn settings_with_skipped_octets_and_a_limit(rt: HostRuntime) {
     }
 }
 
-// The heading alone is a definition without fields. Behind its second comma a line has three values, and it is a field as soon as its digits
+// The heading alone is a definition without fields. After its second comma a line has three values, and it is a field as soon as its digits
 // are a length of its type.
 #[test]
 fn definition_of_fields(rt: HostRuntime) {

@@ -78,7 +78,7 @@ impl<'a> KnownRun<'a> {
         self.calls.get(..index).unwrap_or(&[])
     }
 
-    // The call of a device fails that would follow these, if there is one. The run answers this, so many calls of each device failed, and it read and
+    // The call of a device fails that would follow these, if there is one. The run answers this, that many calls of each device failed, and it read and
     // wrote just what these calls move.
     fn gives(
         &self,
@@ -115,7 +115,7 @@ impl<'a> KnownRun<'a> {
         )
     }
 
-    // Behind the last call of a device no call is left that could fail: the run gives all that is known of the row.
+    // After the last call of a device no call is left that could fail: the run gives all that is known of the row.
     fn is_done(&self, alloc: Global, bench: &mut Bench, device: Device) -> bool {
         let all = self.calls.as_slice();
         self.gives(alloc, bench, all, device, (Ok(self.records), [0, 0, 0]))
@@ -279,7 +279,7 @@ fn worked_failures(rt: HostRuntime) {
     }
 }
 
-// What is put of two packets where the second put is refused and leaves so many octets: how many, if they are the first.
+// What is put of two packets where the second put is refused and leaves this many octets: how many, if they are the first.
 fn answer_of_two_puts(alloc: Global, leaves: usize) -> Option<(Result<u32, RunFault>, usize)> {
     let row = &SPLIT_WITH_IDLE;
     let mut bench = Bench::new(alloc, row.settings, row.recording, 65_536)?;

@@ -62,7 +62,7 @@ fn worked_rows_by_fields(rt: HostRuntime) {
     }
 }
 
-// The packet behind its lead: record 0, begun in record 0 at place 0, channel 0, 16 octets.
+// The packet after its lead: record 0, begun in record 0 at place 0, channel 0, 16 octets.
 const LED_PACKET: &[u8] =
     b"\x00\x00\x00\x00\x00\x00\x00\x00\x00\x00\x00\x00\x10\x00\x00\x00\x00\x64\xC0\x00\x00\x09\x07\xFF\xF0a,b\x3F\x80\x00\x00";
 

@@ -81,7 +81,7 @@ fn writes_row(rows: &mut Rows<'_>) -> bool {
     rows.write(LEAD, &PACKET).is_ok() && rows.row() == ROW.as_bytes()
 }
 
-// So many rows that the text that they are in is begun anew, one that is refused, and one after it.
+// Rows until the text that they are in is begun anew, one that is refused, and one after it.
 #[test]
 fn rows_one_behind_another(rt: HostRuntime) {
     // guards: head-row-and-rows-give-the-head-and-the-rows
@@ -187,7 +187,7 @@ fn definition_faults(rt: HostRuntime) {
     }
 }
 
-// A definition of so many fields, with this behind them.
+// A definition of this many fields, and then this text.
 fn fills(alloc: Global, count: u32, more: &[u8]) -> Result<Vec<u8>, AllocError> {
     let mut text = Vec::from_slice(alloc, b"name,data_type,bit_length\n")?;
     for _ in 0..count {
@@ -205,7 +205,7 @@ fn most_fields(rt: HostRuntime) {
         (1000, b"".as_slice(), None),
         (1001, b"", Some(DefinitionFault::TooMany)),
         (3000, b"", Some(DefinitionFault::TooMany)),
-        // A record of another length is noticed behind those that are kept.
+        // A record of another length is noticed after those that are kept.
         (3000, b"A,fill\n", Some(DefinitionFault::Csv)),
     ];
     for (count, more, fault) in table {

@@ -157,7 +157,7 @@ pub struct MemoryShelf {
     /// The call that is refused, counted from 1; 0 for none.
     pub refuses_at: u64,
     pub refused: u64,
-    /// So many octets of a put that is refused stand on the shelf, if it has more.
+    /// How many octets of a put that is refused stand on the shelf, if it has more.
     pub leaves: usize,
 }
 
@@ -178,7 +178,7 @@ impl MemoryShelf {
         }
     }
 
-    // Keeps octets of an application behind the others, if there is memory for it: whether it did.
+    // Keeps octets of an application after the others, if there is memory for it: whether it did.
     #[tactic(auto, using(crate::proofs::Stored::stored_one))]
     fn keep(&mut self, application: u16, octets: &[u8]) -> bool
         ensures kept { result ≡ true → Puts (Some (stored self.old.puts.items))
@@ -196,7 +196,7 @@ impl MemoryShelf {
         self.puts.push(put).is_ok()
     }
 
-    // Keeps the first octets of a put that is refused, as many as are to be left.
+    // Keeps the first octets of a put that is refused: those that are to be left.
     #[tactic(auto, using(crate::proofs::Stored::put_none, crate::proofs::Stored::put_front))]
     fn leave(&mut self, application: u16, octets: &[u8])
         ensures left { PutsPrefix (Some (stored self.old.puts.items)) (Some (stored self.new.puts.items)) application octets.now }

@@ -72,7 +72,7 @@ fn sink_of<'w>(alloc: Global, items: &'w str, octets: &'w [u8]) -> Wanted<'w> {
     }
 }
 
-// A row's reassembly behind so many records, all of them taken.
+// A row's reassembly after this many records, all of them taken.
 fn after_records(
     alloc: Global,
     row: &Row,
@@ -120,7 +120,7 @@ fn held_and_closed(rt: HostRuntime) {
     assert!(rt; sink.accepted == 3);
 }
 
-// How many octets are held of channel 0 behind the first record of a row, and its last count.
+// How many octets are held of channel 0 after the first record of a row, and its last count.
 fn kept_of_first(alloc: Global, row: &Row) -> Option<(usize, Option<u8>)> {
     let octets = octets_of(alloc, row.octets)?;
     let mut sink = sink_of(alloc, row.items, &octets);
@@ -171,7 +171,7 @@ fn decode(alloc: Global, is_old: bool, octets: &[u8]) -> Result<(Reassembly, usi
     }
 }
 
-// Reads the state after three records, with an octet behind it, and takes a bad frame.
+// Reads the state after three records, with an octet after it, and takes a bad frame.
 fn is_read_again(alloc: Global, is_old: bool, state: &[u8], master: Option<u8>) -> Option<bool> {
     let mut octets = state.to_vec(alloc).ok()?;
     octets.push(0x77).ok()?;

@@ -19,21 +19,21 @@ use tm_tool::{CheckpointFault, Command, Ending, Job, RunFault, Settings, Shelf, 
 
 // A checkpoint, and the job that was resumed from it. It is written again.
 #[derive(Drop)]
-struct Written {
+struct CheckpointWriting {
     octets: Vec<u8>,
     job: Job,
 }
 
-impl Written {
-    fn new(alloc: Global) -> Option<Written> {
+impl CheckpointWriting {
+    fn new(alloc: Global) -> Option<CheckpointWriting> {
         let settings = settings_of(alloc, BASE)?;
         let octets = octets_of(alloc, CHECKPOINT)?;
         let job = Job::resume(alloc, &settings, &octets).ok()?;
-        Some(Written { octets, job })
+        Some(CheckpointWriting { octets, job })
     }
 }
 
-impl Tried for Written {
+impl Tried for CheckpointWriting {
     fn once(&mut self, alloc: Global) -> Answer {
         match self.job.checkpoint(alloc) {
             Ok(again) => {
@@ -47,11 +47,11 @@ impl Tried for Written {
 #[test]
 fn checkpoint_of_a_job(rt: HostRuntime) {
     // guards: a-jobs-checkpoint-is-written-and-read
-    let mut written = try_twice(|| Written::new(rt.alloc())).expect(&rt, "a checkpoint");
+    let mut written = try_twice(|| CheckpointWriting::new(rt.alloc())).expect(&rt, "a checkpoint");
     assert!(rt; passes(&rt, &mut written));
 }
 
-// A checkpoint, from which a job of so many records is resumed.
+// A checkpoint, from which a job of this many records is resumed.
 #[derive(Drop)]
 struct Resumed {
     settings: Settings,
@@ -94,7 +94,7 @@ fn resumed_job(rt: HostRuntime) {
     }
 }
 
-// So many octets are the first packets of these lines.
+// The first packets of these lines have this many octets.
 fn are_packets(octets: usize, lines: &str) -> bool {
     let mut end = 0usize;
     for word in lines.split_whitespace() {
@@ -175,15 +175,15 @@ fn has_room(bench: &mut Bench) -> bool {
 
 // The devices of a run, with room for all that is written, and the job with which the next run begins.
 #[derive(Drop)]
-struct Devices {
+struct RunDevices {
     definition: Definition,
     bench: Bench,
     room: SmallShelf,
     job: Option<Job>,
 }
 
-impl Devices {
-    fn new(alloc: Global, row: &Row) -> Option<Devices> {
+impl RunDevices {
+    fn new(alloc: Global, row: &Row) -> Option<RunDevices> {
         let octets = Vec::with_capacity(alloc, 4096).ok()?;
         let definition = Definition::read(alloc, TEXT.as_bytes()).ok()?;
         let mut bench = Bench::new(alloc, row.settings, row.recording, 65_536)?;
@@ -191,7 +191,7 @@ impl Devices {
             return None;
         }
         let job = Job::new(alloc, &bench.settings).ok();
-        Some(Devices {
+        Some(RunDevices {
             definition,
             bench,
             room: SmallShelf { octets, refused: 0 },
@@ -217,7 +217,7 @@ impl Devices {
 
     // Runs a job once. Frames are listed, and recordings summed up, without it.
     fn run(&mut self, alloc: Global, job: Job, task: Task) -> Result<u32, RunFault> {
-        let Devices {
+        let RunDevices {
             definition,
             bench,
             room,
@@ -256,7 +256,7 @@ impl Devices {
 // Devices, and what each of their runs has to give.
 #[derive(Drop)]
 struct Running {
-    devices: Devices,
+    devices: RunDevices,
     task: Task,
     records: u32,
     out: Vec<u8>,
@@ -266,7 +266,7 @@ struct Running {
 
 impl Running {
     fn new(alloc: Global, row: &Row, task: Task) -> Option<Running> {
-        let devices = Devices::new(alloc, row)?;
+        let devices = RunDevices::new(alloc, row)?;
         let out = out_of(alloc, row, task)?;
         Some(Running {
             devices,
@@ -401,7 +401,7 @@ fn in_held_memory<R: Files + AllocGlobal + Abort>(rt: &R, running: &mut Running)
     running.once(alloc)
 }
 
-// A run whose report has no line takes no memory behind its job: with none left it closes the recording and gives all.
+// A run whose report has no line takes no memory after its job: with none left it closes the recording and gives all.
 #[test]
 fn closed_without_memory(rt: HostRuntime) {
     // guards: the-parts-of-the-state

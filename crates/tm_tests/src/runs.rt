@@ -16,7 +16,7 @@ pub(crate) const TWELVE: &str =
 pub(crate) struct Row {
     pub(crate) name: &'static str,
     pub(crate) settings: &'static str,
-    // Each record: its header, and the packets and parts of packets behind it.
+    // Each record: its header, and then its packets and parts of packets.
     pub(crate) recording: &'static str,
     pub(crate) records: u32,
     // What is found in it: `packet seen channel first place octets`, `drop seen channel first place octets reason`, and the others likewise.
@@ -25,13 +25,13 @@ pub(crate) struct Row {
     pub(crate) octets: &'static str,
     // What `packets` writes.
     pub(crate) lines: &'static str,
-    // What `fields` writes behind the head, of a field of eight bits behind each packet's header.
+    // What `fields` writes after the head, of a field of eight bits after each packet's header.
     pub(crate) rows: &'static str,
     // What all three write to the report.
     pub(crate) report: &'static str,
     // What `summary` writes.
     pub(crate) summary: &'static str,
-    // What is done, in this order: `/` reads a record, and `.` finds the end. A digit is a packet with so many lines in the
+    // What is done, in this order: `/` reads a record, and `.` finds the end. A digit is a packet with that many lines in the
     // report, `i` is an idle packet, and `-` is a line of the report alone. Between `(` and `)` are packets that lie end to end
     // in one data field, and add nothing to the report.
     pub(crate) order: &'static str,
@@ -762,7 +762,7 @@ fn push_octets(octets: &mut Vec<u8>, digits: &str) -> Result<(), AllocError> {
     Ok(())
 }
 
-// Likewise, as often as a number behind `*` says.
+// Likewise, as often as a number after `*` says.
 fn push_word(octets: &mut Vec<u8>, word: &str) -> Result<(), AllocError> {
     let (digits, times) = match word.split_once('*') {
         Some((digits, times)) => (digits, times.parse::<u32>().unwrap_or(0)),

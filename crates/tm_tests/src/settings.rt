@@ -17,7 +17,7 @@ fn base() -> LayoutParts {
     }
 }
 
-// The text is read as settings of this layout, with records of so many octets and packets of at most so many.
+// The text is read as settings of this layout, with records of this many octets and packets of at most that many.
 fn is_read(alloc: Global, text: &str, parts: LayoutParts, record: usize, limit: u32) -> bool {
     match settings_of(alloc, text) {
         Some(settings) => {

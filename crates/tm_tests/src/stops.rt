@@ -49,7 +49,7 @@ fn next_job(alloc: Global, settings: &Settings, job: Job, going: Going) -> Optio
 
 const EXTRACT: By<'static> = By::Run(Command::Extract);
 
-// Runs a job over the recording up to a record: the job that goes on behind it.
+// Runs a job over the recording up to a record: the job that goes on after it.
 fn run_and_reload(
     alloc: Global,
     bench: &mut Bench,
@@ -146,7 +146,7 @@ fn worked_rows_split_in_steps(rt: HostRuntime) {
     }
 }
 
-// The checkpoint of a new job behind so many records.
+// The checkpoint of a new job after this many records.
 fn checkpoint_behind(alloc: Global, bench: &mut Bench, records: u32) -> Option<Vec<u8>> {
     let job = Job::new(alloc, &bench.settings).ok()?;
     let ending = Ending::StopAfter(records);
@@ -168,7 +168,7 @@ fn goes_on(
     Some(bench.has_given(&octets, report.as_bytes()))
 }
 
-// Stops once, after so many records, and goes on from the checkpoint. Where the outputs joined are those of the row, answers the checkpoint.
+// Stops once, after this many records, and goes on from the checkpoint. Where the outputs joined are those of the row, answers the checkpoint.
 fn stopped_once(alloc: Global, row: &Row, records: u32) -> Option<Vec<u8>> {
     let mut bench = Bench::new(alloc, row.settings, row.recording, 65_536)?;
     let checkpoint = checkpoint_behind(alloc, &mut bench, records)?;
@@ -215,7 +215,7 @@ fn known_checkpoints(rt: HostRuntime) {
     }
 }
 
-// Devices over a row's recording give just these octets behind a checkpoint, both in hexadecimal, and this report.
+// Devices over a row's recording give just these octets after a checkpoint, both in hexadecimal, and this report.
 fn goes_on_from(
     alloc: Global,
     checkpoint: &str,
@@ -280,7 +280,7 @@ fn is_in_version(alloc: Global, version: u8, text: &str) -> Option<bool> {
 }
 
 // Stopped after each of the first three records, each time in another version: the only gap of the master channel is that of the
-// fourth. Its line is lost if and only if the last stop, behind which its frame is the first good one, is in an older version.
+// fourth. Its line is lost if and only if the last stop is in an older version: its frame is the first good one after that.
 #[test]
 fn stopped_in_several_versions(rt: HostRuntime) {
     // guards: what-a-forgotten-master-count-costs

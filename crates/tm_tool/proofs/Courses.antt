@@ -24,7 +24,7 @@ use Rattle.tm_tool.proofs.Taking.{holds_of_all, more_reached, wanted_reached}
 
 -- ---- what a course has to keep
 
--- of no records there is nothing; a further record has its own pieces behind the others; and where no more is wanted the ending has none
+-- of no records there is nothing; a further record has its own pieces after the others; and where no more is wanted the ending has none
 pub record IsCourse {A : Type 0} (c : RecordCourse A) : Type 0 where
   pub none : c.pieces [] ≡ []
   pub more : (rs : List (List ℕ)) (one : List ℕ) → c.pieces (rs ++ one ∷ []) ≡ c.pieces rs ++ c.next rs one

@@ -36,7 +36,7 @@ use Rattle.tm_tool.specs.RecordingPieces.{pieces, worked}
 use Rattle.tm_output.specs.Pieces.{item_line, listed, noted, notes_of, packet_octets, report_of, rows_text, text_of, unclosed_piece}
 use Rattle.tm_output.specs.Records.{records, rest_of}
 
--- frames of so many octets of spacecraft 42: a data field has six fewer
+-- frames of this many octets of spacecraft 42: a data field has six fewer
 layout : ℕ → LayoutParts
 layout n = record { frame_length = n; skip_before = 0; skip_after = 0; spacecraft = 42; secondary = Flag; ocf = Flag; error_control = false }
 
@@ -74,7 +74,7 @@ before_gap =
 with_gap : List ℕ
 with_gap = concat before_gap ++ (0x02 ∷ 0xA0 ∷ 0x02 ∷ 0x02 ∷ 0x18 ∷ 0x06 ∷ (fifty_fives 6 ++ packet 12 4))
 
--- what is reported of it behind the line of the master channel
+-- what is reported of it after the line of the master channel
 behind_master : List ℕ
 behind_master = gap_line 3 0 1 2 1 ++ (drop_line 3 0 2 10 8 reason.Gap ++ (drop_line 3 0 3 0 6 reason.NoStart ++ note_line 3 0 100 (note.Gap 3 4 1)))
 
@@ -123,7 +123,7 @@ end_examples : EndExamples
 unfolding pieces records rest_of items after packet_octets listed report_of item_line drop_line note_line short_line digits noted notes_of no_entries unclosed_piece header layout job fifty_fives packet cut fault_of part number bits_of low_bits
 end_examples = record { groups = refl; short_rest = refl }
 
--- stopped behind each of the three, and resumed through checkpoints of the versions 1, 3 and 2: for one run just that line is
+-- stopped after each of the three, and resumed through checkpoints of the versions 1, 3 and 2: for one run just that line is
 -- left out
 mixed_stops : List Stop
 mixed_stops =

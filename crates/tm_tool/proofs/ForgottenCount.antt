@@ -51,7 +51,7 @@ lines-noted : (entries : Entries) (xs : List Item) → Each OnlyLine xs → note
 lines-noted entries [] h = refl
 lines-noted entries (x ∷ xs) h = ap (λ (e : Entries). noted_all e xs) (one-noted entries x h.0) ∙ lines-noted entries xs h.1
 
--- so they stand, and others behind them
+-- so they stand, and others after them
 lines-first : (entries : Entries) (xs ys : List Item) → Each OnlyLine xs → noted_all entries (xs ++ ys) ≡ noted_all entries ys
 lines-first entries xs ys h = noted-append entries xs ys ∙ ap (λ (e : Entries). noted_all e ys) (lines-noted entries xs h)
 

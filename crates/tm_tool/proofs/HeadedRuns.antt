@@ -1,4 +1,4 @@
--- What a command has before all else, and a run that stopped behind it, in the words of the whole recording.
+-- What a command has before all else, and a run that stopped after it, in the words of the whole recording.
 use Rattle.std.proofs.Common.{◌<◌, ℕ, List, [], ◌++◌, subst, inl, inr, Option, None, Some, IfSome, rules, Bor, ◌≡◌, ◌≢◌, Bool, true, false, refl, sym}
 use Rattle.std.proofs.KnownBytes.{Appends-trans, Appends-kept, Appends-nil}
 use Rattle.tm_frame.specs.Layout.{record_length_of}
@@ -43,7 +43,7 @@ module _ {old new report : Option (List ℕ)} {failures failures' : ℕ} (report
       (flush_out Appends _ _ (Appends-nil new) (Appends-nil report) lines_buffering refl failed refl))
   head_stopped _ _ fault (some, h) = absurd (some refl)
 
--- the head was written, and the flush behind it failed
+-- the head was written, and the flush after it failed
 pub flush_failed : (old mid new : Option (List ℕ)) {failures failures' failures'' : ℕ} {command : Command} {fresh : Bool} (definition : Bor Definition) (application : ℕ)
     → command ≡ Fields definition application → fresh ≡ true → Appends old mid (head_of definition.now) → failures' ≡ failures → Keeps mid new → failures'' ≡ raised failures'
     → (head_pieces command fresh ≢ []) × HeadStopped old new failures failures'' (head_text command fresh) Write

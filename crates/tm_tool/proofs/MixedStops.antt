@@ -53,7 +53,7 @@ records_for-front (StopAfter n) more = (drop n more, sym (take-append-drop n mor
 records_for-front _ more = ([], sym (append-nil more), λ e. refl)
 
 module _ (size : ℕ) (ending : Ending) (last : List ℕ) where
-  -- the records that are taken behind those that are done
+  -- the records that are taken after those that are done
   abbrev pub taken : (done : List (List ℕ)) (stops : List Stop) → Follows size last done stops → List (List ℕ)
   taken done [] (more, is) = records_for ending more
   taken done (stop ∷ stops) (more, is, keeps, rest) = records_for stop.ending more ++ taken (done ++ records_for stop.ending more) stops rest
@@ -246,7 +246,7 @@ module _ {A : Type 0} (head : Bool → List (Piece A)) (none : head false ≡ []
       (rw (append-nil (record_pieces text w c)) refl) in
       let again : resumed settings (spelled_in one.version (work_left one.ending w one.recording)) ≡ Ok (record { work = kept; fresh = false }) =
       rw (further_is s e done count one.recording more is) (older_again one.version next next_work told.0) in
-      -- the runs behind it
+      -- the runs after it
       let items_kept : items_of kept t ≡ without_gaps_at lost (items_of next t) =
       items-kept next next_work.state last k next_count t others (ap (drop k) behind ∙ drop-append_seam (done ++ c) (t ++ others)) one.version in
       let there : resumed_pieces head text ending last settings (record { work = kept; fresh = false }) stops

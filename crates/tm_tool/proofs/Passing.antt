@@ -33,7 +33,7 @@ module _ (size count : ℕ) (first left next : Option (List ℕ)) (octets : List
       let whole : HasReadAll size first next passed.read octets = record { octets = read_on; short = short; ended = ended } in
       record { read = passed.read; rest = octets; all = whole; few = omega (arith, passed.counted, fewer) }
 
--- so many octets are so many records
+-- the octets of this many records
 pub cut_records : (size count : ℕ) (octets : List ℕ) → length octets ≡ count * size
     → (read : List (List ℕ)) × AreRecords size read × (length read ≡ count) × (concat read ≡ octets)
 cut_records size zero octets long = ([], tt, refl, sym (nil_from_length octets (long ∙ zero-mul size)))

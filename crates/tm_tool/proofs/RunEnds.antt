@@ -44,7 +44,7 @@ module _ {A K : Type 0} (grows : K → K → List A → Type 0) (grows-nil : (k 
       wrote_groups new (Err fault) h =
           took_stopped grows grows-nil grows-trans buffering old mid new items_end groups_end took_items fault (rw (count, noted) at h)
 
-  -- ---- a flush behind records: they still are taken, or the last one is refused
+  -- ---- a flush after records: they still are taken, or the last one is refused
 
   module _ (buffering : Buffering) (text : Texts A) (mid new : RunState K) where
     pub still_taken : {T : Type 0} (r : Result T RunFault) → Written grows buffering mid.view new.view [] r → new.work ≡ mid.work → new.totals ≡ mid.totals

@@ -1,4 +1,4 @@
--- Records behind records, and the course of a run.
+-- Two lists of records, one after the other, and the course of a run.
 use Rattle.std.proofs.Common.{◌≡◌, ◌<◌, ◌+◌, ℕ, List, [], ◌∷◌, ◌++◌, length, refl, sym, ap, subst, ◌∙◌, arith}
 use Rattle.std.proofs.lemmas.List.{length-map}
 use Rattle.tm_frame.specs.Fault.{frame_reading_of}

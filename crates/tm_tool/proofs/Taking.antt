@@ -79,7 +79,7 @@ module _ {V : Type 0} (takes : Taking V) (size done : ℕ) (ending : Ending) whe
           took = subst (λ (rs : List (List ℕ)). TakesEach takes old rs new) (sym longer) (takes_one takes (drop done taken.read) octets old now new taken.took one);
         }
 
-    -- all was read, and so many octets are left
+    -- all was read, and this many octets are left
     pub taken_all : (next : Option (List ℕ)) (octets : List ℕ) → Consumes left next octets → WantsFurther ending done count
         → (n : ℕ) → length octets ≡ n → length octets < size → IsAtEnd next → HasStepped takes size done ending first next old now count n
     taken_all next octets got wanted n counted short end =

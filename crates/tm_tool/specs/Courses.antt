@@ -22,8 +22,8 @@ devices_at left failures outputs = record { left = left; failures = failures; ou
 abbrev pub DevicesCounted : {T K : Type 0} → Devices K → Devices K → Result T RunFault → Type 0
 DevicesCounted old new r = RunCounted old.failures new.failures old.outputs new.outputs r
 
--- A record has `size` octets, and the first `done` records are passed over. The pieces of those behind them are written, with each further one
--- the pieces that it has behind these. At the end come those of the ending, where so many octets are left.
+-- A record has `size` octets, and the first `done` records are passed over. The pieces of those after them are written, with each further one
+-- the pieces that it has after these. At the end come those of the ending, where this many octets are left.
 pub record RecordCourse (A : Type 0) : Type 0 where
   pub ending : Ending
   pub size : ℕ
@@ -33,7 +33,7 @@ pub record RecordCourse (A : Type 0) : Type 0 where
   pub at_end : List (List ℕ) → ℕ → List (Piece A)
 
 module _ {A : Type 0} (c : RecordCourse A) where
-  -- the pieces of records that were read, of those behind the ones that are done
+  -- the pieces of records that were read, without those that are done
   abbrev pub pieces_read : List (List ℕ) → List (Piece A)
   pieces_read read = c.pieces (drop c.done read)
 
@@ -112,7 +112,7 @@ module _ {A K : Type 0} (grows : K → K → List A → Type 0) (buffering : Buf
   -- ---- with Ok
 
   -- all that the ending reads was read, and its pieces were written, the ending's too. This holds of the number of records that were read, of
-  -- those behind the ones that are done, and of the number of octets that were left
+  -- those after the ones that are done, and of the number of octets that were left
   pub record HasRun (left_old left_new : Option (List ℕ)) (old new : View K) (Holds : ℕ → List (List ℕ) → ℕ → Type 0) : Type 0 where
     pub read : List (List ℕ)
     pub rest : List ℕ

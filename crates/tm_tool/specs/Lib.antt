@@ -1,6 +1,7 @@
 pub mod Courses
 pub mod Endings
 pub mod Listing
+pub mod Overviews
 pub mod RecordingPieces
 pub mod HeadPieces
 pub mod RunTotals

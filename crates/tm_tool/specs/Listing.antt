@@ -1,5 +1,5 @@
 -- The listing of a recording: a line for each record, and one for a rest.
-use Rattle.std.specs.Prelude.{◌≡◌, ◌==◌, if◌then◌else◌, ℕ, ◌+◌, ◌<◌, Bool, List, [], ◌∷◌, ◌++◌, length, Option, Result, Ok, Err, is_ok}
+use Rattle.std.specs.Prelude.{◌≡◌, ◌==◌, if◌then◌else◌, ℕ, ◌+◌, ◌<◌, Bool, List, [], ◌∷◌, ◌++◌, length, Option, Result, Ok, Err, IfSome, is_ok}
 use Rattle.std.specs.List.{concat, count_by}
 use Rattle.std.specs.Io.KnownBytes.{Appends, Consumes, IsAtEnd}
 use Rattle.tm_frame.specs.declared.fault.FrameFault.{FrameFault}
@@ -38,7 +38,7 @@ record_lines layout seen (octets ∷ more) = record_line layout seen octets ∷ 
 abbrev pub rest_lines : ℕ → ℕ → List (List ℕ)
 rest_lines seen octets = if octets == 0 then [] else short_line seen octets ∷ []
 
--- the lines of records and a rest of so many octets
+-- the lines of records and a rest of this many octets
 abbrev pub lines_of : LayoutParts → List (List ℕ) → ℕ → List (List ℕ)
 lines_of layout all rest = record_lines layout 0 all ++ rest_lines (length all) rest
 
@@ -50,7 +50,7 @@ listing layout recording =
 -- ---- what was read and written when a listing ended; of devices that don't tell their octets nothing is said
 
 module _ (layout : LayoutParts) (left_old left_new : Option (List ℕ)) where
-  -- all was read, these octets; just their lines were written; and so many are their records
+  -- all was read, these octets; just their lines were written; and this is the number of their records
   pub record IsListed (out_old out_new : Option (List ℕ)) (count : ℕ) : Type 0 where
     pub read : List ℕ
     pub octets : Consumes left_old left_new read
@@ -63,13 +63,13 @@ module _ (layout : LayoutParts) (left_old left_new : Option (List ℕ)) where
     pub lines : IsListed out_old out_new listed.records
     pub good_is : listed.good ≡ count_by (is_good_record layout) (records (record_length_of layout) lines.read)
 
--- the lines of an ending behind records: that of the rest where it closes the recording
+-- the lines of an ending after records: that of the rest where it closes the recording
 abbrev pub end_lines : Ending → ℕ → ℕ → List (List ℕ)
 end_lines Close seen rest = rest_lines seen rest
 end_lines Keep seen rest = []
 end_lines (StopAfter n) seen rest = []
 
--- what a listing writes behind the records that are done
+-- what a listing writes after the records that are done
 abbrev pub listing_course : LayoutParts → ℕ → Ending → RecordCourse ℕ
 listing_course layout done ending = record {
   ending = ending;
@@ -95,3 +95,14 @@ pub record ListingStopped (layout : LayoutParts) (old new : View (Option (List �
   pub cut : AppendsCut Appends old new (line_pieces (listing layout octets))
   pub memory : fault ≡ NoMemory → new ≡ old
   pub too_many : fault ≡ TooMany → most_records < record_count (record_length_of layout) octets
+
+-- ---- what is said of the octets that were read holds for the whole recording
+
+abbrev pub ListsAll : LayoutParts → Type 0
+ListsAll layout = (left_old left_new out_old out_new : Option (List ℕ)) (count : ℕ) → 0 < record_length_of layout →
+    IsListed layout left_old left_new out_old out_new count →
+    IfSome left_old (λ octets. Appends out_old out_new (concat (listing layout octets)) × (count ≡ record_count (record_length_of layout) octets))
+
+abbrev pub ListsToOnePlace : LayoutParts → Type 0
+ListsToOnePlace layout = (left_old left_new : Option (List ℕ)) (old new : View (Option (List ℕ))) (fault : RunFault) → 0 < record_length_of layout →
+    IsListingStop layout left_old left_new old new fault → IfSome left_old (ListingStopped layout old new fault)

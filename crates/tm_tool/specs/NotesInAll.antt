@@ -1,13 +1,16 @@
 -- The notes that a report has, from the whole list of the headers of its packets.
-use Rattle.std.specs.Prelude.{ℕ, List, [], ◌∷◌, ◌++◌, length, drop, slice_index_or}
+use Rattle.std.specs.Prelude.{◌≡◌, ℕ, List, [], ◌∷◌, ◌++◌, length, drop, slice_index_or}
 use Rattle.std.specs.List.{flat_map}
 use Rattle.tm_packet.specs.declared.notes.Note.{Note}
 use Rattle.tm_packet.specs.Header.{packet_header_of}
 use Rattle.tm_packet.specs.Merge.{Sent}
+use Rattle.tm_packet.specs.Merge as sequence
 use Rattle.tm_items.specs.Item.{Item, Packet}
 use Rattle.tm_lines.specs.Lines.{note_lines}
 use Rattle.tm_output.specs.Outputs.{Piece}
 use Rattle.tm_output.specs.Pieces.{Texts, item_line, sent}
+use Rattle.tm_checkpoint.specs.Works.{IsWork, Work}
+use Rattle.tm_tool.specs.RecordingPieces.{items_of, record_pieces}
 
 -- the packet in an item, if it is one
 unfoldable pub sent_in : Item → List Sent
@@ -30,3 +33,8 @@ module _ {A : Type 0} (text : Texts A) where
   pieces_with notes (x ∷ xs) =
       record { out = text.out x; report = report_with (slice_index_or notes 0 []) x ++ text.remark x }
       ∷ pieces_with (drop (length (sent_in x)) notes) xs
+
+  -- the report of records has the notes of the whole list of their headers
+  abbrev pub NotesAsInAll : Type 0
+  NotesAsInAll = (w : Work) (rs : List (List ℕ)) → IsWork w →
+      record_pieces text w rs ≡ pieces_with (sequence.notes w.entries (sent_among (items_of w rs))) (items_of w rs)

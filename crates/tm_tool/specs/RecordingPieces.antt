@@ -1,10 +1,11 @@
 -- The pieces of a recording, from where a job has got: those of its records, and of its ending.
-use Rattle.std.specs.Prelude.{ℕ, List, [], ◌++◌, length, drop}
+use Rattle.std.specs.Prelude.{◌≡◌, ℕ, List, [], ◌++◌, length, drop}
 use Rattle.tm_frame.specs.Layout.{record_length_of}
 use Rattle.tm_packet.specs.Merge as sequence
 use Rattle.tm_items.specs.Item.{Item}
 use Rattle.tm_reassembly.specs.Items.{closing}
 use Rattle.tm_reassembly.specs.Recording.{items, after}
+use Rattle.tm_reassembly.specs.Valid.{IsValidState}
 use Rattle.tm_checkpoint.specs.Works.{Work}
 use Rattle.tm_output.specs.declared.command.Ending.{Ending}
 use Rattle.tm_output.specs.declared.command.Ending.TheVariants.{Close, Keep, StopAfter}
@@ -35,7 +36,7 @@ module _ {A : Type 0} (text : Texts A) where
   abbrev pub record_pieces : Work → List (List ℕ) → List (Piece A)
   record_pieces w rs = pieces_of text w.entries (items_of w rs)
 
-  -- the pieces of a closed end, where so many octets are left: its items, and then the groups that are open
+  -- the pieces of a closed end, where this many octets are left: its items, and then the groups that are open
   abbrev pub closing_pieces : Work → ℕ → List (Piece A)
   closing_pieces w rest =
       pieces_of text w.entries (closing w.state rest)
@@ -47,7 +48,7 @@ module _ {A : Type 0} (text : Texts A) where
   end_pieces Keep w rest = []
   end_pieces (StopAfter n) w rest = []
 
-  -- the pieces of records and of the ending, where so many octets are left
+  -- the pieces of records and of the ending, where this many octets are left
   abbrev pub pieces_after : Ending → Work → List (List ℕ) → ℕ → List (Piece A)
   pieces_after ending w rs rest = record_pieces w rs ++ end_pieces ending (worked w rs) rest
 
@@ -55,3 +56,8 @@ module _ {A : Type 0} (text : Texts A) where
   unfoldable pub pieces : Ending → Work → List ℕ → List (Piece A)
   pieces ending w recording =
       pieces_after ending w (records_for ending (further w recording)) (length (rest_of (record_length_of w.rules.layout) recording))
+
+  -- the pieces of two lists of records are those of the first, and then those of the second from the work that the first leaves
+  abbrev pub JoinsPieces : Type 0
+  JoinsPieces = (w : Work) (a b : List (List ℕ)) → IsValidState w.rules w.state →
+      record_pieces w (a ++ b) ≡ record_pieces w a ++ record_pieces (worked w a) b

@@ -1,14 +1,16 @@
 -- A job that is stopped and resumed from its checkpoints, any number of times.
-use Rattle.std.specs.Prelude.{⊤, ◌≡◌, ℕ, ◌+◌, ◌-◌, min, Bool, List, [], ◌∷◌, ◌++◌, length, Result, Ok, Err}
+use Rattle.std.specs.Prelude.{⊤, ◌≡◌, ◌<◌, ℕ, ◌+◌, ◌-◌, ◌^◌, min, Bool, List, [], ◌∷◌, ◌++◌, length, Result, Ok, Err}
 use Rattle.std.specs.List.{AllByRecursion}
-use Rattle.tm_frame.specs.Rules.{Rules}
+use Rattle.tm_frame.specs.Layout.{record_length_of}
+use Rattle.tm_frame.specs.Rules.{IsLimit, Rules}
+use Rattle.tm_reassembly.specs.Valid.{AllOctets}
 use Rattle.tm_faults.specs.declared.run.CheckpointFault.{CheckpointFault}
 use Rattle.tm_output.specs.declared.command.Ending.{Ending}
 use Rattle.tm_output.specs.declared.command.Ending.TheVariants.{Close, Keep, StopAfter}
 use Rattle.tm_checkpoint.specs.Checkpoints.{resumed, spelled_in}
 use Rattle.tm_checkpoint.specs.declared.version.Version.{Version}
 use Rattle.tm_checkpoint.specs.declared.version.Version.TheVariants.{Three}
-use Rattle.tm_checkpoint.specs.Works.{JobState, Work}
+use Rattle.tm_checkpoint.specs.Works.{JobState, Work, new_job}
 use Rattle.tm_output.specs.Outputs.{Piece}
 use Rattle.tm_output.specs.Pieces.{Texts}
 use Rattle.tm_tool.specs.RecordingPieces.{records_for, further, pieces, worked}
@@ -61,7 +63,7 @@ Follows size last done [] = (more : List (List ℕ)) × (records size last ≡ d
 Follows size last done (stop ∷ stops) =
     (more : List (List ℕ)) × (records size stop.recording ≡ done ++ more) × KeepsJob stop.ending × Follows size last (done ++ records_for stop.ending more) stops
 
--- how many records are done after a run, of so many in its recording, where so many were done before
+-- how many records are done after a run over a recording of `count` records, where `done` were done before
 abbrev pub done_after : Ending → ℕ → ℕ → ℕ
 done_after Close done count = count
 done_after Keep done count = count
@@ -78,3 +80,13 @@ abbrev pub in_one : Ending → ℕ → Ending
 in_one Close count = Close
 in_one Keep count = StopAfter count
 in_one (StopAfter n) count = StopAfter count
+
+-- Jobs that are stopped any number of times, and resumed from checkpoints of today, give in all what one run gives of the last recording.
+-- That run takes the records that are done in all.
+abbrev pub GivesAsOne : {A : Type 0} → (Bool → List (Piece A)) → Texts A → Type 0
+GivesAsOne head text = (ending : Ending) (last : List ℕ) (settings : Rules) (stops : List Stop) →
+    length settings.channels ≡ 8 → IsLimit settings.max_packet → AllOctets (records (record_length_of settings.layout) last) →
+    length (records (record_length_of settings.layout) last) < 2 ^ 32 →
+    AllOfToday stops → Follows (record_length_of settings.layout) last [] stops →
+    resumed_pieces head text ending last settings (new_job settings) stops
+    ≡ run_pieces head text (in_one ending (done_in_all (record_length_of settings.layout) ending last 0 stops)) (new_job settings) last

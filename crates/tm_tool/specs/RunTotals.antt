@@ -88,6 +88,6 @@ module _ {A : Type 0} (text : Texts A) where
     absent = replicate 8 false;
   }
 
-  -- those of a run over these records, where the ending leaves this many octets; behind them it is known which channels didn't come
+  -- those of a run over these records, where the ending leaves this many octets; after them it is known which channels didn't come
   abbrev pub run_totals : Ending → Work → List (List ℕ) → ℕ → Totals
   run_totals ending w rs rest = record (totals_of w.rules (run_tally ending w rs rest)) { absent = absent_channels (worked w rs) }

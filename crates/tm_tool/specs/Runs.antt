@@ -1,6 +1,6 @@
 -- What was read and written when a run ended. If a source doesn't tell its octets, nothing is said of what was read.
-use Rattle.std.specs.Prelude.{false, ◌≡◌, ◌≢◌, ◌⊎◌, ◌<◌, ◌+◌, ℕ, List, [], ◌∷◌, ◌++◌, length, Option, None, Some}
-use Rattle.std.specs.Io.KnownBytes.{Consumes}
+use Rattle.std.specs.Prelude.{false, ◌≡◌, ◌≢◌, ◌⊎◌, ◌<◌, ◌+◌, ℕ, List, [], ◌∷◌, ◌++◌, length, option_map, Option, None, Some, Result, IfErr, IfOk, IfSome, OnOk}
+use Rattle.std.specs.Io.KnownBytes.{Appends, Consumes, Keeps}
 use Rattle.tm_frame.specs.Layout.{most_records, record_length_of}
 use Rattle.tm_reassembly.specs.Valid.{IsValidState}
 use Rattle.tm_faults.specs.declared.run.RunFault.{RunFault}
@@ -8,15 +8,19 @@ use Rattle.tm_faults.specs.declared.run.RunFault.TheVariants.{Write, ShortRecord
 use Rattle.tm_output.specs.declared.command.Ending.{Ending}
 use Rattle.tm_output.specs.declared.command.Ending.TheVariants.{Close, Keep, StopAfter}
 use Rattle.tm_output.specs.Outputs.{AppendsCut, Piece, RefusesPut, Stopped, Took, View, WantsMemory, Buffering}
-use Rattle.tm_output.specs.Pieces.{Texts}
+use Rattle.tm_output.specs.Pieces.{Texts, buffering_of, text_of}
+use Rattle.tm_output.specs.Shelves.{Shelves, shelf_buffering, shelf_text}
+use Rattle.tm_output.specs.declared.command.Command.{Command}
 pub use Rattle.tm_tool.specs.Courses.{RecordCourse, Devices, DevicesCounted, IsStoppedAt, devices_at}
 use Rattle.tm_tool.specs.Endings.{AreEnough}
 use Rattle.tm_output.specs.Seen.{both, shelf_both}
 use Rattle.tm_devices.specs.declared.device.Drain as drain
 use Rattle.tm_devices.specs.declared.device.Shelf as shelf
 use Rattle.tm_devices.specs.declared.device.BufferedSource as source
-use Rattle.tm_checkpoint.specs.Works.{Work}
+use Rattle.tm_checkpoint.specs.Works.{JobState, Work}
 use Rattle.tm_output.specs.declared.totals.Totals.{Totals}
+use Rattle.tm_tool.specs.declared.job.Done.{Done}
+use Rattle.tm_tool.specs.HeadPieces.{head_pieces}
 use Rattle.tm_tool.specs.RunTotals.{run_totals}
 use Rattle.tm_tool.specs.RecordingPieces.{records_for, further, worked, record_pieces, end_pieces, pieces}
 use Rattle.tm_output.specs.Records.{record_count, rest_of}
@@ -53,6 +57,36 @@ devices r w v recording out report = devices_at (r.left recording) (r.failures r
 -- and into a shelf and a drain
 abbrev pub shelf_devices : {R H F V : Type 0} → source.Ghosts R → shelf.Ghosts H F → drain.Ghosts V → R → H → V → Devices (Option (ℕ → List ℕ))
 shelf_devices r h v recording shelf report = devices_at (r.left recording) (r.failures recording) (shelf_both h v shelf report)
+
+-- the devices of a run into two drains at a moment: also their numbers, and what of each was flushed
+pub record DrainsState : Type 0 where
+  pub devices : Devices (Option (List ℕ))
+  pub out_number : ℕ
+  pub report_number : ℕ
+  pub out_flushed : Option (List ℕ)
+  pub report_flushed : Option (List ℕ)
+
+abbrev pub drains_state : {R W V : Type 0} → source.Ghosts R → drain.Ghosts W → drain.Ghosts V → R → W → V → DrainsState
+drains_state r w v recording out report = record {
+  devices = devices r w v recording out report;
+  out_number = w.fixed out;
+  report_number = v.fixed report;
+  out_flushed = w.flushed out;
+  report_flushed = v.flushed report;
+}
+
+-- and of a run into a shelf and a drain
+pub record ShelfAndDrain : Type 0 where
+  pub devices : Devices (Option (ℕ → List ℕ))
+  pub report_number : ℕ
+  pub report_flushed : Option (List ℕ)
+
+abbrev pub shelf_and_drain : {R H F V : Type 0} → source.Ghosts R → shelf.Ghosts H F → drain.Ghosts V → R → H → V → ShelfAndDrain
+shelf_and_drain r h v recording shelf report = record {
+  devices = shelf_devices r h v recording shelf report;
+  report_number = v.fixed report;
+  report_flushed = v.flushed report;
+}
 
 -- Records and what the ending has are written one after the other, from where the job has got. The recording is read from its beginning:
 -- the records that are done come first, and nothing is written of them.
@@ -108,3 +142,49 @@ module _ {A K : Type 0} (grows : K → K → List A → Type 0) (buffering : Buf
     pub too_many : fault ≡ TooMany → most_records < record_count (record_length_of w.rules.layout) octets
     -- it has fewer records than are done
     pub short : fault ≡ ShortRecording → record_count (record_length_of w.rules.layout) octets < w.state.records
+
+  -- ---- of a recording that tells its octets
+
+  -- what `Ran` says of the octets that were read holds for the whole recording
+  abbrev pub RunsOverAll : List (Piece A) → Type 0
+  RunsOverAll head = (old new : Devices K) (count : ℕ) (kept : Option Work) (totals : Totals) → IsSoundWork w → Ran head old new count kept totals
+      → IfSome old.left (λ octets. Outcome head octets old.outputs new.outputs count kept totals)
+
+  -- after a fault there is one place of the whole recording up to which pieces were written
+  abbrev pub StopsAtOnePlace : List (Piece A) → Type 0
+  StopsAtOnePlace head = (old new : Devices K) (fault : RunFault) → IsSoundWork w → IsHeadedStop head old new fault
+      → IfSome old.left (StoppedIn head old.outputs new.outputs fault)
+
+  -- and so where there is no head
+  abbrev pub StopsAtOnePlaceUnheaded : Type 0
+  StopsAtOnePlaceUnheaded = (old new : Devices K) (fault : RunFault) → IsSoundWork w → IsStop old new fault
+      → IfSome old.left (StoppedIn [] old.outputs new.outputs fault)
+
+-- How a job ran with a command, into two drains.
+pub record RunsJob (command : Command) (ending : Ending) (job : JobState) (old new : DrainsState) (result : Result Done RunFault) : Type 0 where
+  pub sound : IsSoundWork job.work
+  -- the drains are the same ones
+  pub same_out : new.out_number ≡ old.out_number
+  pub same_report : new.report_number ≡ old.report_number
+  -- with Ok just the pieces of what was read were written, and flushed; what was read is what the ending reads; and a job that is kept isn't fresh
+  pub ran : IfOk result (λ done. Ran Appends (buffering_of command) (text_of command) ending job.work (head_pieces command job.fresh)
+      old.devices new.devices done.records (option_map (λ j. j.work) done.kept) done.totals)
+  pub fresh : IfOk result (λ done. IfSome done.kept (λ j. j.fresh ≡ false))
+  pub flushed_out : OnOk result (Keeps new.out_flushed new.devices.outputs.out)
+  pub flushed_report : OnOk result (Keeps new.report_flushed new.devices.outputs.report)
+  -- after a fault there is one place up to which pieces were written, and nothing was read past the record of the piece at which writing stopped
+  pub stopped : IfErr result (IsHeadedStop Appends (buffering_of command) (text_of command) ending job.work (head_pieces command job.fresh)
+      old.devices new.devices)
+  -- a device is blamed only where a call of it failed
+  pub counts : DevicesCounted old.devices new.devices result
+
+-- How a job ran into a shelf and a drain: the same without a head, and a job that is kept is as fresh as it was.
+pub record SplitsJob (ending : Ending) (job : JobState) (old new : ShelfAndDrain) (result : Result Done RunFault) : Type 0 where
+  pub sound : IsSoundWork job.work
+  pub same_report : new.report_number ≡ old.report_number
+  pub ran : IfOk result (λ done. Ran Shelves shelf_buffering shelf_text ending job.work [] old.devices new.devices done.records
+      (option_map (λ j. j.work) done.kept) done.totals)
+  pub fresh : IfOk result (λ done. IfSome done.kept (λ j. j.fresh ≡ job.fresh))
+  pub flushed_report : OnOk result (Keeps new.report_flushed new.devices.outputs.report)
+  pub stopped : IfErr result (IsStop Shelves shelf_buffering shelf_text ending job.work old.devices new.devices)
+  pub counts : DevicesCounted old.devices new.devices result

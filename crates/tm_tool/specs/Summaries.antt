@@ -1,5 +1,5 @@
 -- A summary of a recording: what it counts, its lines, and what was read and written when it ended.
-use Rattle.std.specs.Prelude.{◌≡◌, ◌<◌, ℕ, List, [], ◌++◌, length, Option}
+use Rattle.std.specs.Prelude.{◌≡◌, ◌<◌, ℕ, List, [], ◌++◌, length, Option, IfSome}
 use Rattle.std.specs.List.{concat}
 use Rattle.std.specs.Io.KnownBytes.{Appends, Consumes, IsAtEnd}
 use Rattle.tm_frame.specs.Layout.{most_records, record_length_of}
@@ -18,7 +18,7 @@ use Rattle.tm_output.specs.declared.command.Ending.TheVariants.{Close}
 use Rattle.tm_tool.specs.RecordingPieces.{items_of, worked}
 use Rattle.tm_tool.specs.RunTotals.{run_tally}
 
--- the items of records and of the closed end behind them, where so many octets are left
+-- the items of records and of the closed end after them, where this many octets are left
 abbrev pub closed_items : Work → List (List ℕ) → ℕ → List Item
 closed_items w rs rest = items_of w rs ++ closing (worked w rs).state rest
 
@@ -38,7 +38,7 @@ summary rules recording =
 -- ---- what was read and written when a summary ended; of devices that don't tell their octets nothing is said
 
 module _ (rules : Rules) (left_old left_new : Option (List ℕ)) where
-  -- all was read, these octets; just the lines of their summary were written; and so many are their records
+  -- all was read, these octets; just the lines of their summary were written; and this is the number of their records
   pub record IsSummarized (old new : Option (List ℕ)) (count : ℕ) : Type 0 where
     pub read : List ℕ
     pub octets : Consumes left_old left_new read
@@ -46,7 +46,7 @@ module _ (rules : Rules) (left_old left_new : Option (List ℕ)) where
     pub written : Appends old new (concat (summary rules read))
     pub count_is : count ≡ record_count (record_length_of rules.layout) read
 
--- what a summary writes: its lines, behind all records
+-- what a summary writes: its lines, after all records
 abbrev pub summary_course : Rules → RecordCourse ℕ
 summary_course rules = record {
   ending = Close;
@@ -74,3 +74,13 @@ pub record SummaryStopped (rules : Rules) (old new : View (Option (List ℕ))) (
   pub cut : AppendsCut Appends old new (line_pieces (summary rules octets))
   pub memory : fault ≡ NoMemory → new ≡ old
   pub too_many : fault ≡ TooMany → most_records < record_count (record_length_of rules.layout) octets
+
+-- ---- what is said of the octets that were read holds for the whole recording
+
+abbrev pub SumsUpAll : Rules → Type 0
+SumsUpAll rules = (left_old left_new old new : Option (List ℕ)) (count : ℕ) → IsSummarized rules left_old left_new old new count →
+    IfSome left_old (λ octets. Appends old new (concat (summary rules octets)) × (count ≡ record_count (record_length_of rules.layout) octets))
+
+abbrev pub SumsUpToOnePlace : Rules → Type 0
+SumsUpToOnePlace rules = (left_old left_new : Option (List ℕ)) (old new : View (Option (List ℕ))) (fault : RunFault) →
+    0 < record_length_of rules.layout → IsSummaryStop rules left_old left_new old new fault → IfSome left_old (SummaryStopped rules old new fault)

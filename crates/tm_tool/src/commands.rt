@@ -1,4 +1,4 @@
-//! What each command does with a recording.
+//! The run of each command: the head of its rows, and the outlet that it gives packets to.
 
 ghost use Rattle.std.specs.Prelude.{◌≡◌, ◌≢◌, [], true, IfErr, OnOk};
 ghost use Rattle.std.specs.Io.KnownBytes.{Appends, Keeps};

@@ -1,13 +1,9 @@
 //! A job: the packets of a recording, and the report of what is lost.
 
-ghost use Rattle.std.specs.Prelude.{[], ◌≡◌, false, option_map, IfOk, IfErr, IfSome, OnOk};
-ghost use Rattle.std.specs.Io.KnownBytes.{Appends, Keeps};
+ghost use Rattle.std.specs.Prelude.{◌≡◌, option_map, IfOk, IfSome};
 ghost use Rattle.tm_checkpoint.specs.Works.{new_job};
-ghost use Rattle.tm_tool.specs.HeadPieces.{head_pieces};
-ghost use Rattle.tm_output.specs.Pieces.{buffering_of, text_of};
-ghost use Rattle.tm_tool.specs.Runs.{DevicesCounted, IsHeadedStop, IsSoundWork, IsStop, Ran, devices, kept_of, shelf_devices};
+ghost use Rattle.tm_tool.specs.Runs.{RunsJob, SplitsJob, drains_state, kept_of, shelf_and_drain};
 ghost use Rattle.tm_tool.specs.code.Extractors.{IsReady, work_in};
-ghost use Rattle.tm_output.specs.Shelves.{Shelves, shelf_text, shelf_buffering};
 
 use crate::commands::{run_command, write_csv_head};
 use crate::extractor::Extractor;
@@ -127,33 +123,10 @@ pub fn run<R: BufferedSource, W: Drain, V: Drain>(
     report: &mut V,
     ending: Ending,
 ) -> Result<Done, RunFault>
-    ensures sound { IsSoundWork job.work }
-
-    // The drains are the same ones.
-    ensures same_out { W.fixed out.new ≡ W.fixed out.old }
-    ensures same_report { V.fixed report.new ≡ V.fixed report.old }
-
-    // With Ok just the pieces of what was read were written, and passed on; and what was read is what the ending reads.
-    ensures ran { IfOk result (λ done. Ran Appends (buffering_of command.entry) (text_of command.entry) ending job.work
-        (head_pieces command.entry job.fresh)
-        (devices R.BufferedSource W.Drain V.Drain recording.old out.old report.old)
-        (devices R.BufferedSource W.Drain V.Drain recording.new out.new report.new) done.records
-        (option_map (λ j. j.work) done.kept) done.totals) }
-    ensures fresh { IfOk result (λ done. IfSome done.kept (λ j. j.fresh ≡ false)) }
-    ensures flushed_out { OnOk result (Keeps (W.flushed out.new) (W.written out.new)) }
-    ensures flushed_report { OnOk result (Keeps (V.flushed report.new) (V.written report.new)) }
-
-    // After a fault there is one place up to which pieces were written, and nothing was read past the record of the piece at
-    // which writing stopped.
-    ensures stopped { IfErr result (IsHeadedStop Appends (buffering_of command.entry) (text_of command.entry) ending job.work
-        (head_pieces command.entry job.fresh)
-        (devices R.BufferedSource W.Drain V.Drain recording.old out.old report.old)
-        (devices R.BufferedSource W.Drain V.Drain recording.new out.new report.new)) }
-
-    // A device is blamed only where a call of it failed.
-    ensures counts { DevicesCounted
-        (devices R.BufferedSource W.Drain V.Drain recording.old out.old report.old)
-        (devices R.BufferedSource W.Drain V.Drain recording.new out.new report.new) result }
+    // With Ok just the pieces of what was read were written. After a fault they were written up to one place.
+    ensures { RunsJob command.entry ending job
+        (drains_state R.BufferedSource W.Drain V.Drain recording.old out.old report.old)
+        (drains_state R.BufferedSource W.Drain V.Drain recording.new out.new report.new) result }
 {
     let Job {
         mut extractor,
@@ -174,7 +147,6 @@ pub fn run<R: BufferedSource, W: Drain, V: Drain>(
 /// # Errors
 ///
 /// As `run`: `Write` where a put was refused, and `NoMemory` only where a line for the report can't be made. The job is given up.
-#[tactic(auto, using(crate::proofs::RunPieces::ran_split))]
 pub fn split<R: BufferedSource, H: Shelf, V: Drain>(
     _alloc: Global,
     job: Job,
@@ -183,29 +155,9 @@ pub fn split<R: BufferedSource, H: Shelf, V: Drain>(
     report: &mut V,
     ending: Ending,
 ) -> Result<Done, RunFault>
-    ensures sound { IsSoundWork job.work }
-
-    // The report's drain is the same one.
-    ensures same_report { V.fixed report.new ≡ V.fixed report.old }
-
-    // With Ok just the pieces of what was read were written, and passed on; and what was read is what the ending reads.
-    ensures ran { IfOk result (λ done. Ran Shelves shelf_buffering shelf_text ending job.work []
-        (shelf_devices R.BufferedSource H.Shelf V.Drain recording.old shelf.old report.old)
-        (shelf_devices R.BufferedSource H.Shelf V.Drain recording.new shelf.new report.new) done.records
-        (option_map (λ j. j.work) done.kept) done.totals) }
-    ensures fresh { IfOk result (λ done. IfSome done.kept (λ j. j.fresh ≡ job.fresh)) }
-    ensures flushed_report { OnOk result (Keeps (V.flushed report.new) (V.written report.new)) }
-
-    // After a fault there is one place up to which pieces were written, and nothing was read past the record of the piece at
-    // which writing stopped.
-    ensures stopped { IfErr result (IsStop Shelves shelf_buffering shelf_text ending job.work
-        (shelf_devices R.BufferedSource H.Shelf V.Drain recording.old shelf.old report.old)
-        (shelf_devices R.BufferedSource H.Shelf V.Drain recording.new shelf.new report.new)) }
-
-    // A device is blamed only where a call of it failed.
-    ensures counts { DevicesCounted
-        (shelf_devices R.BufferedSource H.Shelf V.Drain recording.old shelf.old report.old)
-        (shelf_devices R.BufferedSource H.Shelf V.Drain recording.new shelf.new report.new) result }
+    ensures { SplitsJob ending job
+        (shelf_and_drain R.BufferedSource H.Shelf V.Drain recording.old shelf.old report.old)
+        (shelf_and_drain R.BufferedSource H.Shelf V.Drain recording.new shelf.new report.new) result }
 {
     let Job {
         mut extractor,

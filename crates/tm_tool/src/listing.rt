@@ -1,12 +1,12 @@
 //! A line for each frame of a recording.
 
-ghost use Rattle.std.specs.Prelude.{◌≡◌, ◌≤◌, ◌<◌, ◌∷◌, [], length, IfOk, IfErr, OnOk, OnErr};
+ghost use Rattle.std.specs.Prelude.{◌≡◌, ◌≤◌, ◌<◌, ◌∷◌, [], length, IfOk, OnOk, OnErr};
 ghost use Rattle.std.specs.Io.KnownBytes.{Appends, Keeps};
 ghost use Rattle.tm_frame.specs.Layout.{record_length_of};
 ghost use Rattle.tm_tool.specs.Courses.{HasEnded};
-ghost use Rattle.tm_output.specs.Faults.{FaultsCounted};
 ghost use Rattle.tm_faults.specs.declared.run.RunFault.TheVariants.{Write};
 ghost use Rattle.tm_tool.specs.Listing.{IsListed, IsListing, IsListingStop, end_lines, is_good_record, listing_course, record_line};
+ghost use Rattle.tm_tool.specs.Overviews.{Shows, source_and_drain};
 ghost use Rattle.tm_output.specs.Outputs.{Stopped, Took, line_piece, line_pieces, octets_buffering};
 ghost use Rattle.tm_output.specs.Seen.{out_alone};
 ghost use Rattle.tm_tool.specs.code.Listed.{Lists, counts_good, drain_devices, listing_names};
@@ -154,7 +154,7 @@ impl<W: Drain> RecordHandler for Listing<'_, W> {
     }
 }
 
-// Lists the records that the ending wants behind those that are done, one at a time, through this buffer where they are not at hand.
+// Lists the records that the ending wants after those that are done, one at a time, through this buffer where they are not at hand.
 fn list_records<R: BufferedSource, W: Drain>(
     done: u32,
     buffer: &mut [u8],
@@ -185,7 +185,7 @@ fn list_records<R: BufferedSource, W: Drain>(
     }
 }
 
-/// Lists the records that the ending wants behind those that are done, and the octets that are left where it closes the recording.
+/// Lists the records that the ending wants after those that are done, and the octets that are left where it closes the recording.
 /// Flushes, and answers how many records are done then, and how many good frames are among those that were listed.
 ///
 /// # Errors
@@ -226,21 +226,10 @@ pub fn list_recording<R: BufferedSource, W: Drain>(
     recording: &mut R,
     out: &mut W,
 ) -> Result<Listed, RunFault>
-    // With Ok all was read, and just the lines of what was read were written, and passed on.
-    ensures listed { IfOk result (IsListing settings.now.layout (R.left recording.old) (R.left recording.new) (W.written out.old)
-        (W.written out.new)) }
-    ensures flushed { OnOk result (Keeps (W.flushed out.new) (W.written out.new)) }
-
-    // The drain is the same one.
-    ensures same { W.fixed out.new ≡ W.fixed out.old }
-
-    // After a fault there is one place up to which lines were written, and nothing was read past the record whose line was being written.
-    ensures stopped { IfErr result (IsListingStop settings.now.layout (R.left recording.old) (R.left recording.new)
-        (out_alone W.Drain out.old) (out_alone W.Drain out.new)) }
-
-    // A device is blamed only where a call of it failed.
-    ensures counts { FaultsCounted (R.failures recording.old) (R.failures recording.new) (W.failures out.old)
-        (W.failures out.new) result }
+    // With Ok just the lines of what was read were written. After a fault they were written up to one place.
+    ensures { Shows (IsListing settings.now.layout) (IsListingStop settings.now.layout)
+        (source_and_drain R.BufferedSource W.Drain recording.old out.old)
+        (source_and_drain R.BufferedSource W.Drain recording.new out.new) result }
 {
     list_behind(alloc, settings.layout(), 0, recording, out, Ending::Close)
 }
@@ -256,14 +245,9 @@ pub fn list_frames<R: BufferedSource, W: Drain>(
     recording: &mut R,
     out: &mut W,
 ) -> Result<u32, RunFault>
-    ensures listed { IfOk result (IsListed settings.now.layout (R.left recording.old) (R.left recording.new) (W.written out.old)
-        (W.written out.new)) }
-    ensures flushed { OnOk result (Keeps (W.flushed out.new) (W.written out.new)) }
-    ensures same { W.fixed out.new ≡ W.fixed out.old }
-    ensures stopped { IfErr result (IsListingStop settings.now.layout (R.left recording.old) (R.left recording.new)
-        (out_alone W.Drain out.old) (out_alone W.Drain out.new)) }
-    ensures counts { FaultsCounted (R.failures recording.old) (R.failures recording.new) (W.failures out.old)
-        (W.failures out.new) result }
+    ensures { Shows (IsListed settings.now.layout) (IsListingStop settings.now.layout)
+        (source_and_drain R.BufferedSource W.Drain recording.old out.old)
+        (source_and_drain R.BufferedSource W.Drain recording.new out.new) result }
 {
     match list_recording(alloc, settings, recording, out) {
         Ok(listed) => Ok(listed.records),

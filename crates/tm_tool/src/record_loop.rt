@@ -24,10 +24,10 @@ pub(crate) trait RecordHandler {
 
     ghost fixed: { Self.Progress → Self → Self.Fixed };
 
-    /// So many octets are a record.
+    /// The length of a record, in octets.
     ghost size: { Self.Fixed → ℕ };
 
-    /// So many records are done.
+    /// The number of records that are done.
     ghost count: { Self.Known → ℕ };
 
     /// A further record may be taken.
@@ -62,7 +62,7 @@ pub(crate) trait RecordHandler {
         ensures refused { IfErr result (refuses (fixed progress.old self.old) (known progress.old self.old) octets.now
             (known progress.new self.new)) };
 
-    /// Flushes all that was written. The record that was taken last still is taken, or it is refused.
+    /// Flushes all that was written. If that fails, the record that was taken last counts as refused.
     fn flush_all(&mut self, progress: &Self::Progress) -> Result<(), RunFault>
         ensures same { fixed progress.now self.new ≡ fixed progress.now self.old }
         ensures counted { OnOk result (count (known progress.now self.new) ≡ count (known progress.now self.old)) }
@@ -135,7 +135,7 @@ fn wants_more(ending: Ending, done: u32, records: u32) -> bool
 }
 
 // Takes the next record: where it is at hand as it stands there, else through this buffer. What was written is flushed where the recording may
-// wait for the record behind it. Answers how many octets are left where it is no whole one.
+// wait for the record after it. Answers how many octets are left where it is no whole one.
 fn handle_next<R: BufferedSource, K: RecordHandler>(
     progress: &mut K::Progress,
     buffer: &mut [u8],
@@ -185,7 +185,7 @@ fn handle_next<R: BufferedSource, K: RecordHandler>(
     }
 }
 
-/// Takes the records that the ending wants, one at a time through this buffer, behind those that are done. Answers how many octets are
+/// Takes the records that the ending wants, one at a time through this buffer, after those that are done. Answers how many octets are
 /// left then, of a record that is no whole one.
 pub(crate) fn handle_records<R: BufferedSource, K: RecordHandler>(
     progress: &mut K::Progress,

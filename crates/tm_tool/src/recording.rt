@@ -1,4 +1,4 @@
-//! A recording, record by record, into the outputs.
+//! A run of a job over a recording, into an outlet and a report.
 
 ghost use Rattle.std.specs.Prelude.{◌≡◌, ◌<◌, [], false, length, OnOk};
 ghost use Rattle.std.specs.Io.KnownBytes.{Keeps};
@@ -67,7 +67,7 @@ impl<O: Outlet, V: Drain> RecordHandler for Output<'_, O, V> {
     }
 }
 
-// What the ending has behind the records: a closed end has its items, and then the groups that are open.
+// Writes what the ending has after the records: a closed end has its items, and then the groups that are open.
 fn end<O: Outlet, V: Drain>(
     reassembly: &Reassembly,
     rest: usize,
@@ -105,7 +105,7 @@ fn is_absent(reassembly: &Reassembly, channel: u8) -> bool
     reassembly.channels().has(channel) && reassembly.last_count(channel).is_none()
 }
 
-// The same of each channel.
+// For each channel whether it is absent.
 fn absent_channels(reassembly: &Reassembly) -> [bool; 8]
     requires going { reassembly.now.failed ≡ false }
     ensures { result ≡ absent_channels (work_of reassembly.now []) }

@@ -1,12 +1,10 @@
 //! A summary of a recording: what came, and what was lost, at a glance.
 
-ghost use Rattle.std.specs.Prelude.{◌≡◌, ◌<◌, false, length, IfErr, IfOk, OnOk};
-ghost use Rattle.std.specs.Io.KnownBytes.{Keeps};
+ghost use Rattle.std.specs.Prelude.{◌≡◌, ◌<◌, false, length};
 ghost use Rattle.tm_frame.specs.Layout.{record_length_of};
-ghost use Rattle.tm_output.specs.Faults.{FaultsCounted};
-ghost use Rattle.tm_output.specs.Seen.{out_alone};
 ghost use Rattle.tm_summary.specs.SummaryNumbers.{nothing, numbers_of};
 ghost use Rattle.tm_summary.specs.Tallies.{SameReferences};
+ghost use Rattle.tm_tool.specs.Overviews.{Shows, source_and_drain};
 ghost use Rattle.tm_tool.specs.Summaries.{IsSummarized, IsSummaryStop};
 ghost use Rattle.tm_tool.specs.SummaryNumbers.{IsSummed};
 ghost use Rattle.tm_checkpoint.specs.Works.{IsGoing, work_of};
@@ -77,7 +75,7 @@ impl RecordHandler for Counting<'_> {
     }
 }
 
-// Counts a closed end, where so many octets are left.
+// Counts a closed end, where this many octets are left.
 fn count_end(reassembly: &Reassembly, rest: usize, counting: &mut Counting<'_>)
     requires rest { rest < record_length_of reassembly.now.rules.layout }
     requires going { reassembly.now.failed ≡ false }
@@ -157,21 +155,11 @@ pub fn sum_up<R: BufferedSource, W: Drain>(
     recording: &mut R,
     out: &mut W,
 ) -> Result<Summed, RunFault>
-    // With Ok all was read, and just the lines of the summary of what was read were written, and passed on.
-    ensures summed { IfOk result (IsSummed settings.now (R.left recording.old) (R.left recording.new) (W.written out.old)
-        (W.written out.new)) }
-    ensures flushed { OnOk result (Keeps (W.flushed out.new) (W.written out.new)) }
-
-    // The drain is the same one.
-    ensures same { W.fixed out.new ≡ W.fixed out.old }
-
-    // After a fault there is one place up to which lines were written: none before all was read.
-    ensures stopped { IfErr result (IsSummaryStop settings.now (R.left recording.old) (R.left recording.new)
-        (out_alone W.Drain out.old) (out_alone W.Drain out.new)) }
-
-    // A device is blamed only where a call of it failed.
-    ensures counts { FaultsCounted (R.failures recording.old) (R.failures recording.new) (W.failures out.old)
-        (W.failures out.new) result }
+    // With Ok just the lines of the summary of what was read were written. After a fault they were written up to one place:
+    // none before all was read.
+    ensures { Shows (IsSummed settings.now) (IsSummaryStop settings.now)
+        (source_and_drain R.BufferedSource W.Drain recording.old out.old)
+        (source_and_drain R.BufferedSource W.Drain recording.new out.new) result }
 {
     let Ok(mut job) = Job::new(alloc, settings) else {
         return Err(RunFault::NoMemory);
@@ -209,14 +197,9 @@ pub fn summarize<R: BufferedSource, W: Drain>(
     recording: &mut R,
     out: &mut W,
 ) -> Result<u32, RunFault>
-    ensures summarized { IfOk result (IsSummarized settings.now (R.left recording.old) (R.left recording.new) (W.written out.old)
-        (W.written out.new)) }
-    ensures flushed { OnOk result (Keeps (W.flushed out.new) (W.written out.new)) }
-    ensures same { W.fixed out.new ≡ W.fixed out.old }
-    ensures stopped { IfErr result (IsSummaryStop settings.now (R.left recording.old) (R.left recording.new)
-        (out_alone W.Drain out.old) (out_alone W.Drain out.new)) }
-    ensures counts { FaultsCounted (R.failures recording.old) (R.failures recording.new) (W.failures out.old)
-        (W.failures out.new) result }
+    ensures { Shows (IsSummarized settings.now) (IsSummaryStop settings.now)
+        (source_and_drain R.BufferedSource W.Drain recording.old out.old)
+        (source_and_drain R.BufferedSource W.Drain recording.new out.new) result }
 {
     match sum_up(alloc, settings, recording, out) {
         Ok(summed) => Ok(summed.records),

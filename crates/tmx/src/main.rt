@@ -9,7 +9,7 @@ use std::rt::Env;
 use tm_devices::Watched;
 use tm_explanations::{Asked, DoneRun, Explanation, ask, explain, explain_losses, explain_words};
 use tm_program::{
-    Found, Octets, Outcome, RunFault, ToolFault, Totals, UsageFault, fault_line, run, status,
+    Found, Octets, ProgramOutcome, RunFault, ToolFault, Totals, UsageFault, fault_line, run, status,
 };
 
 const NOT_TEXT: &str =
@@ -33,7 +33,7 @@ fn all_arguments(rt: &HostRuntime) -> Result<Vec<String>, ToolFault> {
     }
 }
 
-// The words of the command line. `help` in front of the others is `--help` behind them.
+// The words of the command line. `help` in front of the others is `--help` after them.
 fn all_words(rt: &HostRuntime) -> Result<Vec<String>, ToolFault> {
     let mut words = all_arguments(rt)?;
     if words.is_empty() || words[0].as_str() != "help" {
@@ -59,7 +59,7 @@ fn ask_for_explanation(rt: &HostRuntime) -> Option<Asked> {
     ask(&value[..length], rt.stderr().is_terminal())
 }
 
-// What is said behind the line of a fault, where it is wanted: why it came, and what to do. The number is that of the system's first error.
+// What is said after the line of a fault, where it is wanted: why it came, and what to do. The number is that of the system's first error.
 fn explanation(rt: &HostRuntime, fault: &ToolFault, number: Option<i32>) -> Option<Explanation> {
     let wanted = ask_for_explanation(rt)?;
     let found = match all_words(rt) {
@@ -73,7 +73,7 @@ fn explanation(rt: &HostRuntime, fault: &ToolFault, number: Option<i32>) -> Opti
     }
 }
 
-// Prints the line of a fault on standard error, and behind it, where that is wanted, why the fault came.
+// Prints the line of a fault on standard error, and after it, where that is wanted, why the fault came.
 fn refuse(rt: &HostRuntime, fault: &ToolFault, number: Option<i32>) -> ExitCode {
     let mut errors = rt.stderr();
     let code = match fault_line(rt.alloc(), fault) {
@@ -93,7 +93,7 @@ fn refuse(rt: &HostRuntime, fault: &ToolFault, number: Option<i32>) -> ExitCode 
 }
 
 // What is known of a run that is done. A summary has told all by its lines.
-fn done_run(outcome: Outcome) -> DoneRun {
+fn done_run(outcome: ProgramOutcome) -> DoneRun {
     let mut totals = Totals::none();
     let (records, is_told) = match outcome.found {
         Found::Frames(listed) => {
@@ -125,7 +125,7 @@ fn done_run(outcome: Outcome) -> DoneRun {
 }
 
 // Says, where a second line is wanted, what a run that is done has lost.
-fn remark(rt: &HostRuntime, outcome: Outcome) {
+fn remark(rt: &HostRuntime, outcome: ProgramOutcome) {
     if let Some(wanted) = ask_for_explanation(rt)
         && let Ok(words) = all_words(rt)
         && let Ok(Some(line)) = explain_losses(rt, wanted, words, &done_run(outcome))

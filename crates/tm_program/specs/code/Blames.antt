@@ -1,13 +1,15 @@
 -- Which device a run's fault blames, and how splitting ends.
-use Rattle.std.specs.Prelude.{◌≡◌, ◌⊎◌, ⊤, ℕ, Bool, true, false, List, Option, None, Some, Result, Ok, Err, MatchResult}
+use Rattle.std.specs.Prelude.{◌≡◌, ◌⊎◌, ⊤, ℕ, List, Option, None, Some, Result, Ok, Err, MatchResult}
 use Rattle.tm_devices.specs.Devices.{raised}
 use Rattle.tm_output.specs.Faults.{CausedByDevice}
 use Rattle.tm_faults.specs.declared.run.RunFault.{RunFault}
 use Rattle.tm_faults.specs.declared.run.RunFault.TheVariants as run
 use Rattle.tm_faults.specs.declared.program.ToolFault.{ToolFault}
 use Rattle.tm_faults.specs.declared.program.ToolFault.TheVariants as tool
+use Rattle.tm_split_files.specs.Names.{file_in}
 use Rattle.tm_split_files.specs.declared.files.ShelfFault.{ShelfFault}
 use Rattle.tm_split_files.specs.declared.files.ShelfFault.TheVariants as shelf
+use Rattle.tm_split_files.specs.declared.refusals.RefusedPut.{RefusedPut}
 
 -- A device is blamed only where a call of it failed: `Read` where the source's count of failures rose, `Write` where the drain's did, and no other count rises.
 abbrev pub IsBlamed : ℕ → ℕ → ℕ → ℕ → ToolFault → Type 0
@@ -21,12 +23,16 @@ IsBlamedBeside source_old source_new report_old report_new (tool.Run run.Read) =
 IsBlamedBeside source_old source_new report_old report_new (tool.Run run.Report) = report_new ≡ raised report_old
 IsBlamedBeside source_old source_new report_old report_new _ = ⊤
 
--- The fault of a put that was refused: memory ran out, or else its file is another file of the run or can't be written. Memory may
--- also run out for the file's name.
-abbrev pub IsPutFault : Bool → Option (List ℕ) → ToolFault → Type 0
-IsPutFault true clashing fault = fault ≡ tool.Run run.NoMemory
-IsPutFault false (Some name) fault = (fault ≡ tool.File name) ⊎ (fault ≡ tool.Run run.NoMemory)
-IsPutFault false None fault = fault ≡ tool.Run run.Write
+-- The fault of a put into this folder that was refused: memory ran out, or else its file is another file of the run or can't be
+-- written. Memory may also run out for the file's name.
+abbrev pub IsRefusedPut : List ℕ → ℕ → ShelfFault → ToolFault → Type 0
+IsRefusedPut folder application shelf.NoMemory fault = fault ≡ tool.Run run.NoMemory
+IsRefusedPut folder application shelf.NotWritten fault = fault ≡ tool.Run run.Write
+IsRefusedPut folder application shelf.Clashes fault = (fault ≡ tool.File (file_in folder application)) ⊎ (fault ≡ tool.Run run.NoMemory)
+
+abbrev pub IsPutFault : List ℕ → Option RefusedPut → ToolFault → Type 0
+IsPutFault folder None fault = fault ≡ tool.Run run.Write
+IsPutFault folder (Some put) fault = IsRefusedPut folder put.application put.fault fault
 
 -- the fault of held octets that can't be written
 abbrev pub held_fault_of : ShelfFault → RunFault
@@ -34,10 +40,10 @@ held_fault_of shelf.NoMemory = run.NoMemory
 held_fault_of shelf.NotWritten = run.Write
 held_fault_of shelf.Clashes = run.Write
 
--- What splitting ends with, of what its run says, of what writing says of that which was held, and of why the shelf last refused a
--- put.
-abbrev pub IsSplitEnd : {D : Type 0} → Result D RunFault → Result ⊤ ShelfFault → Bool → Option (List ℕ) → Result D ToolFault → Type 0
-IsSplitEnd (Ok done) (Ok nothing) out_of_memory clashing end = end ≡ Ok done
-IsSplitEnd (Ok done) (Err fault) out_of_memory clashing end = end ≡ Err (tool.Run (held_fault_of fault))
-IsSplitEnd (Err run.Write) written out_of_memory clashing end = MatchResult end (λ done. ⊥) (IsPutFault out_of_memory clashing)
-IsSplitEnd (Err fault) written out_of_memory clashing end = end ≡ Err (tool.Run fault)
+-- What splitting into this folder ends with, by what its run says, by what writing says of that which was held, and by the last put
+-- that was refused.
+abbrev pub IsSplitEnd : {D : Type 0} → Result D RunFault → Result ⊤ ShelfFault → List ℕ → Option RefusedPut → Result D ToolFault → Type 0
+IsSplitEnd (Ok done) (Ok nothing) folder put end = end ≡ Ok done
+IsSplitEnd (Ok done) (Err fault) folder put end = end ≡ Err (tool.Run (held_fault_of fault))
+IsSplitEnd (Err run.Write) written folder put end = MatchResult end (λ done. ⊥) (IsPutFault folder put)
+IsSplitEnd (Err fault) written folder put end = end ≡ Err (tool.Run fault)

@@ -10,7 +10,7 @@ module _ {Z : Type 0} where
   abbrev pub octets_held_for : List (Vec ℕ Z) → ℕ → Option (List ℕ)
   octets_held_for held application = option_map (λ octets. octets.items) (slice_get held application)
 
-  -- the first so many are empty
+  -- the first `n` are empty
   abbrev pub AreEmptyOf : ℕ → List (Vec ℕ Z) → Type 0
   AreEmptyOf n held = (application : ℕ) → application < n → octets_held_for held application ≡ Some []
 
@@ -18,7 +18,7 @@ module _ {Z : Type 0} where
   abbrev pub AreEmpty : List (Vec ℕ Z) → Type 0
   AreEmpty held = AreEmptyOf 2048 held
 
-  -- these octets stand behind those of their application, and the others are as before
+  -- these octets stand after those of their application, and the others are as before
   abbrev pub IsExtended : List (Vec ℕ Z) → List (Vec ℕ Z) → ℕ → List ℕ → Type 0
   IsExtended old new application added =
       (octets_held_for new application ≡ option_map (λ octets. octets ++ added) (octets_held_for old application))
@@ -41,7 +41,7 @@ module _ {Z : Type 0} where
   abbrev pub AreKeptOrEmpty : List (Vec ℕ Z) → List (Vec ℕ Z) → Type 0
   AreKeptOrEmpty old new = (application : ℕ) → IsLeftAt old new application
 
-  -- likewise, but that of this application may have these octets behind those that it had
+  -- likewise, but that of this application may have these octets after those that it had
   abbrev pub AreLeft : List (Vec ℕ Z) → List (Vec ℕ Z) → ℕ → List ℕ → Type 0
   AreLeft old new application added =
       (IsLeftAt old new application ⊎ (octets_held_for new application ≡ option_map (λ octets. octets ++ added) (octets_held_for old application)))

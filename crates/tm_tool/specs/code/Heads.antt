@@ -15,7 +15,7 @@ abbrev pub head_text : Command → Bool → List ℕ
 head_text (Fields definition application) fresh = if fresh then head_of definition.now else []
 head_text _ fresh = []
 
--- writing stopped in it, or it was written and the flush behind it failed
+-- writing stopped in it, or it was written and the flush after it failed
 abbrev pub HeadStopped : Option (List ℕ) → Option (List ℕ) → ℕ → ℕ → List ℕ → RunFault → Type 0
 HeadStopped old new failures_old failures_new text fault =
     PutStopped Appends lines_buffering old new failures_old failures_new text fault

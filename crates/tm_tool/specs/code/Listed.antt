@@ -21,7 +21,7 @@ pub record ListingState : Type 0 where
   pub listed : Listed
   pub view : View (Option (List ℕ))
 
--- the numbers behind more records
+-- the numbers after more records
 abbrev pub listed_behind : LayoutParts → Listed → List (List ℕ) → Listed
 listed_behind layout listed rs = record { records = listed.records + length rs; good = listed.good + count_by (is_good_record layout) rs }
 
@@ -51,7 +51,7 @@ drain_devices r w recording out = devices_at (r.left recording) (r.failures reco
 abbrev pub counts_good : LayoutParts → Listed → ℕ → List (List ℕ) → ℕ → Type 0
 counts_good layout listed count rs rest = (listed.records ≡ count) × (listed.good ≡ count_by (is_good_record layout) rs)
 
--- how a listing behind so many records ended: without memory for a record nothing was done
+-- how a listing of the records after those that are done ended: without memory for a record nothing was done
 abbrev pub Lists : LayoutParts → ℕ → Ending → Devices (Option (List ℕ)) → Devices (Option (List ℕ)) → Result Listed RunFault → Type 0
 Lists layout done ending old new r =
     HasEnded Appends octets_buffering (listing_course layout done ending) old new (counts_good layout) r ⊎ ((r ≡ Err NoMemory) × (new ≡ old))

@@ -9,7 +9,7 @@ pub record ReadsNext (size : ℕ) (left_old left_new : Option (List ℕ)) (Holds
   pub octets : Consumes left_old left_new one
   pub holds : Holds one
 
--- all was read, and so many octets are left, fewer than a record
+-- all was read, and this many octets are left, fewer than a record
 pub record EndsNext (size : ℕ) (left_old left_new : Option (List ℕ)) (count : ℕ) : Type 0 where
   pub rest : List ℕ
   pub left : length rest ≡ count

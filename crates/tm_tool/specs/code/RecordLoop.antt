@@ -19,7 +19,7 @@ Reached Close done count = ⊤
 Reached Keep done count = ⊤
 Reached (StopAfter n) done count = count ≤ done + n
 
--- at least so many
+-- at least the number that is wanted
 abbrev pub Enough : Ending → ℕ → ℕ → Type 0
 Enough Close done count = ⊥
 Enough Keep done count = ⊥
@@ -88,16 +88,16 @@ NextStopped refuses size left_old left_new failures_old failures_new old new fau
     (FailsNext size left_old left_new × (fault ≡ Read) × (failures_new ≡ raised failures_old) × (new ≡ old))
     ⊎ (ReadsNext size left_old left_new (λ one. refuses old one new fault) × (failures_new ≡ failures_old))
 
--- ---- and those behind the ones that are done are taken
+-- ---- and those after them are taken
 
 -- records are taken one after the other
 abbrev pub TakesEach : {V : Type 0} → Taking V → V → List (List ℕ) → V → Type 0
 TakesEach takes old [] new = new ≡ old
 TakesEach {V} takes old (one ∷ rs) new = (mid : V) × takes old (one ∷ []) mid × TakesEach takes mid rs new
 
--- a record has so many octets, and so many records are done
+-- a record has `size` octets, and `done` records are done before
 module _ {V : Type 0} (takes : Taking V) (size done : ℕ) where
-  -- these records were read, nothing else; those behind the ones that are done were taken, and so many are done now
+  -- these records were read, nothing else; those after the ones that were done were taken, and `count` are done now
   pub record HasTaken (left_old left_new : Option (List ℕ)) (old new : V) (count : ℕ) : Type 0 where
     pub read : List (List ℕ)
     pub sized : AreRecords size read
@@ -106,7 +106,7 @@ module _ {V : Type 0} (takes : Taking V) (size done : ℕ) where
     pub count_is : count ≡ length read
     pub took : TakesEach takes old (drop done read) new
 
-  -- all that the ending reads was read and taken, so many records are done, and so many octets are left
+  -- all that the ending reads was read and taken, `count` records are done, and this many octets are left
   pub record HasStepped (ending : Ending) (left_old left_new : Option (List ℕ)) (old new : V) (count octets : ℕ) : Type 0 where
     pub read : List (List ℕ)
     pub rest : List ℕ
@@ -116,7 +116,7 @@ module _ {V : Type 0} (takes : Taking V) (size done : ℕ) where
     pub left : length rest ≡ octets
     pub took : TakesEach takes old (drop done read) new
 
-  -- a read failed in a record behind them
+  -- a read failed in a record after them
   pub record TakingFails (ending : Ending) (left_old left_new : Option (List ℕ)) (old new : V) : Type 0 where
     pub read : List (List ℕ)
     pub part : List ℕ

@@ -69,7 +69,7 @@ abbrev pub output_devices : {R O V : Type 0} → source.Ghosts R → (o : outlet
 output_devices r o v recording output = devices_at (r.left recording) (r.failures recording) (output_both o v output)
 
 module _ {A : Type 0} (text : Texts A) (ending : Ending) (w left : Work) where
-  -- what a run leaves: so many records are done, this is kept of the work that is left, and the totals say what it gave and lost
+  -- what a run leaves: this many records are done, this is kept of the work that is left, and the totals say what it gave and lost
   abbrev pub Leaves : Totals → ℕ → List (List ℕ) → ℕ → Type 0
   Leaves totals count rs rest =
       (left.state.records ≡ count) × (kept_of ending left ≡ kept_of ending (worked w rs)) × (totals ≡ run_totals text ending w rs rest)

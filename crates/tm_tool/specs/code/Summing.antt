@@ -1,4 +1,4 @@
--- What was counted by then, while a summary is made: for private contracts.
+-- How a summary counts the records of a recording and its closed end: for private contracts.
 use Rattle.std.specs.Prelude.{◌≡◌, ◌≤◌, ℕ, List, ◌++◌, length, Option, Result, MatchResult}
 use Rattle.tm_frame.specs.Layout.{record_length_of}
 use Rattle.tm_packet.specs.Merge as sequence
@@ -28,7 +28,7 @@ and_records w t rs = record {
   notes = t.notes ++ notes_among w.entries (items_of w rs);
 }
 
--- with a closed end more, where so many octets are left
+-- with a closed end more, where this many octets are left
 abbrev pub and_end : Work → Tally → ℕ → Tally
 and_end w t rest =
     and_notes (and_items t w.entries (closing w.state rest)) (open_notes (sequence.unclosed 0 (noted_all w.entries (closing w.state rest))))
@@ -66,7 +66,7 @@ abbrev pub CountsEnd : Work → SummaryNumbers → ℕ → SummaryNumbers → Ty
 CountsEnd w before rest now = (t : Tally) → before ≡ numbers_of t → length w.entries ≤ 16384 → now ≡ numbers_of (and_end w t rest)
 
 module _ (w : Work) (left_old left_new : Option (List ℕ)) where
-  -- all was read and counted, down to the closed end; and so many records were read
+  -- all was read and counted, down to the closed end; and this many records were read
   pub record HasSummed (now : SummaryNumbers) (count : ℕ) : Type 0 where
     pub read : List (List ℕ)
     pub rest : List ℕ

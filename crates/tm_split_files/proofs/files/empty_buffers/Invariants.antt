@@ -1,4 +1,4 @@
--- So many applications have their place, and nothing is held of them.
+-- These applications have their place, and nothing is held of them.
 use Rattle.std.proofs.Common.{◌≡◌}
 use Rattle.std.specs.Prelude.{vec_len}
 use Rattle.tm_split_files.specs.code.Buffers.{AreEmptyOf}

@@ -1,4 +1,4 @@
--- The records that were read behind those that are done are taken, and no call failed.
+-- The records that were read after those that are done are taken, and no call failed.
 use Rattle.std.proofs.Common.{◌≡◌, ◌-◌, ◌^◌, length}
 use Rattle.tm_tool.specs.code.RecordLoop.{HasTaken, Reached}
 use Rattle.tm_tool.proofs.record_loop.handle_records.Given as goal

@@ -1,4 +1,4 @@
--- So many records were passed over, and no call failed.
+-- These records were passed over, and no call failed.
 use Rattle.std.proofs.Common.{◌≡◌, length}
 use Rattle.tm_tool.specs.code.RecordLoop.{HasPassed}
 use Rattle.tm_tool.proofs.record_loop.skip_records.Given as goal

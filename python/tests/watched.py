@@ -77,8 +77,8 @@ def catching_up(octets: bytes, recording: Path, settings: str, length: int, reco
     began = time.monotonic()
     run = started(recording, settings, subprocess.PIPE)
     until(run, length // record)
-    took = time.monotonic() - began
-    print(f"{length} octets in {took:.2f} s: {length / took / 1e6:.0f} MB/s")
+    took, own = time.monotonic() - began, spent(run.pid)
+    print(f"{length} octets in {took:.2f} s: {length / took / 1e6:.0f} MB/s, and {length / own / 1e6:.0f} MB in a second of its own")
     ended(run)
 
 

@@ -8,7 +8,6 @@ import fcntl
 import hashlib
 import os
 import pty
-import re
 import select
 import signal
 import subprocess
@@ -17,23 +16,13 @@ import termios
 import time
 from pathlib import Path
 
-CLONE = Path(__file__).resolve().parent.parent
-README = CLONE / "README.md"
+from blocks import CLONE, COMMAND, block_of
+
 # Seconds: other trials may have the processors and the disk.
 LIMIT = 60
-# What stands on the PATH for `nc`, for tmx, whose number the trial has to know, and for the commands of the package for Python.
+# What stands on the PATH for `nc`, and for tmx, whose number the trial has to know.
 FEEDER = "#!/bin/sh\ncat first\nuntil [ -e go ]; do sleep 0.01; done\nexec cat rest\n"
 PROGRAM = '#!/bin/sh\necho $$ >number.new\nmv number.new number\nexec {} "$@"\n'
-COMMAND = '#!/bin/sh\nexec python3 -m tmx {} "$@"\n'
-
-
-def commands_of_readme(word):
-    """The block of README.md that runs nc and this, without what it is indented by."""
-    blocks = re.findall(r"(?:^ {4}.*\n)+", README.read_text(encoding="utf-8"), re.M)
-    blocks = [it for it in blocks if "nc -l" in it and word in it]
-    if len(blocks) != 1:
-        raise SystemExit(f"README.md has {len(blocks)} blocks with nc and {word}, not one")
-    return re.sub(r"^ {4}", "", blocks[0], flags=re.M)
 
 
 def until(is_done):
@@ -75,7 +64,7 @@ class Pass:
     """The commands of README.md, running in a folder of their own over a recording that comes in two halves."""
 
     def __init__(self, folder, tmx, settings, octets, word):
-        self.folder, self.octets, self.shell, self.commands = folder, octets, None, commands_of_readme(word)
+        self.folder, self.octets, self.shell, self.commands = folder, octets, None, block_of("README.md", "nc -l", word)
         half = len(octets) // 2
         if settings is not None:
             self.put("s.toml", settings)

@@ -76,7 +76,7 @@ class Totals:
         """Adds whole lines of `tmx frames`.  Raises VersionError where one is none."""
         number, good = lines.count(b"\n"), 0
         for channel in range(8):
-            if frames := lines.count(b" channel=%d " % channel):
+            if frames := lines.count(b" channel=%d master=" % channel):
                 good += frames
                 self.last_good = now
                 if self.chosen is None or channel in self.chosen:

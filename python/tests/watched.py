@@ -44,7 +44,7 @@ def until(run: subprocess.Popen[bytes], records: int) -> None:
 
 
 def ended(run: subprocess.Popen[bytes]) -> None:
-    run.send_signal(signal.SIGINT)
+    run.send_signal(signal.SIGTERM)
     run.communicate()
     if run.returncode:
         raise SystemExit(f"status {run.returncode} of watch")

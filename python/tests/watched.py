@@ -69,7 +69,7 @@ def at_rate(octets: bytes, recording: Path, settings: str, seconds: float) -> No
 
 
 def catching_up(octets: bytes, recording: Path, settings: str, length: int, record: int) -> None:
-    """Says how fast it reads a file of so many octets that is there already."""
+    """Says how fast it reads a file of so many octets that is there already, also by its own processor time."""
     with open(recording, "wb") as file:
         while file.tell() < length:
             file.write(octets)
@@ -78,7 +78,8 @@ def catching_up(octets: bytes, recording: Path, settings: str, length: int, reco
     run = started(recording, settings, subprocess.PIPE)
     until(run, length // record)
     took, own = time.monotonic() - began, spent(run.pid)
-    print(f"{length} octets in {took:.2f} s: {length / took / 1e6:.0f} MB/s, and {length / own / 1e6:.0f} MB in a second of its own")
+    speed, cost = length / took / 1e6, length / own / 1e6
+    print(f"{length} octets in {took:.2f} s: {speed:.0f} MB/s, and {cost:.0f} MB in a second of its own")
     ended(run)
 
 

@@ -32,6 +32,7 @@ from .errors import (
     VersionError,
 )
 from .fields import Fields
+from .groups import JoinedGroup
 from .lines import (
     ApplicationCounts,
     Bad,
@@ -87,6 +88,7 @@ __all__ = [
     "Given",
     "Group",
     "Item",
+    "JoinedGroup",
     "KilledError",
     "LibraryMissingError",
     "LossCounts",

@@ -10,6 +10,7 @@ from .arguments import APPLICATIONS, CHANNELS, RECORDS, Number, Numbers, number,
 from .checkpoints import Name, NewFile
 from .errors import ProgramMissingError, RunError
 from .fields import Fields, Table, read_tables, time_of
+from .groups import JoinedGroup, groups
 from .lines import (
     FRAMES,
     REPORT,
@@ -108,6 +109,20 @@ class Recording:
         is_whole = resume is None and stop is None
         job = Job(self.source, self.settings, chosen(apid, channel), report, checkpoint, resume, stop, progress, is_whole)
         return job.packets()
+
+    def groups(
+        self, apid: Numbers = None, channel: Numbers = None, *, secondary_header: Number = 0, progress: Progress = False
+    ) -> Iterator[JoinedGroup | Broken | Stray]:
+        """The user data of each whole group of segments, and what is in no whole group, in the order of the report.
+
+        apid, channel     the applications and channels that are wanted, one number or several; None is all
+        secondary_header  how many octets are taken off the data of each packet whose header says that it has a secondary header;
+                          with 0 it is left in
+
+        A JoinedGroup has the joined data.  Broken says which group isn't whole, and why, and Stray which segment is in none.
+        Only the segments of open groups are held.  Raises DisagreementError where the recording changes meanwhile.
+        """
+        return groups(self.source, self.settings, apid, channel, secondary_header, progress)
 
     def follow(
         self,

@@ -3,8 +3,8 @@
     memory.py KIND OCTETS
 
 KIND is `long`, packets of 65542 octets, or `short`, packets of 1021 octets, which is half of a data field; or `rows`, fields of
-short packets in blocks of 1000 rows; or `groups`, short packets as groups of eight.  The recording is 256 frames again and again, whose data fields whole packets fill; it has
-so many octets, rounded down to whole frames.
+short packets in blocks of 1000 rows; or `groups`, short packets as groups of eight.  The recording is 256 frames again and again,
+whose data fields whole packets fill; it has so many octets, rounded down to whole frames.
 """
 
 import json

@@ -9,7 +9,7 @@ from collections.abc import Collection, Iterable, Iterator, Mapping, Sequence
 from contextlib import contextmanager
 from dataclasses import dataclass
 from itertools import chain, islice
-from typing import IO, Any
+from typing import IO, TYPE_CHECKING, Any
 
 from .definition import Column, column_named, long_values, read_definition
 from .errors import ColumnError, DisagreementError, word_behind
@@ -21,8 +21,12 @@ from .settings import Settings
 from .source import Source, refuse_to_overwrite
 from .steps import reads_all
 from .tables import html_table, text_table
+from .time_codes import Ticks, TimeCode
 from .times import Epoch, times
 from .values import Encoding, Kinds, module
+
+if TYPE_CHECKING:
+    from .decoding import Polynomial, Spline
 
 Name = str | os.PathLike[str]
 
@@ -75,11 +79,31 @@ class Fields(Mapping[str, Any]):
         """Whether no packet of the application came."""
         return not self.rows and not self.short_lines
 
+    def decoded(
+        self,
+        *,
+        labels: Mapping[str, Mapping[int | range, str]] | None = None,
+        curves: Mapping[str, "Sequence[float] | Polynomial | Spline"] | None = None,
+        times: Mapping[str, TimeCode | Ticks] | None = None,
+    ) -> "Fields":
+        """The table with what the raw values of columns mean.  Behind such a column stands the raw one, with `_raw` in its name.
+
+        labels  for a column the label of each number or range: a pandas.Categorical, or without pandas texts and None
+        curves  for a column the coefficients of a polynomial from the power 0 up, a Polynomial or a Spline: floats
+        times   for a column of octets a TimeCode, for one of numbers Ticks: times as `fields` gives them
+
+        Raises ColumnError where a column isn't there, or isn't of a fitting type.
+        """
+        from .decoding import decoded, decoders_of
+
+        return decoded(self, decoders_of(labels, curves, times))
+
     def to_numpy(self) -> dict[str, Any]:
         """The columns as arrays of numpy, by name.  Raises ImportError where numpy isn't there."""
-        if module("numpy") is None:
+        numpy = module("numpy")
+        if numpy is None:
             raise ImportError("numpy is not there: without it columns are lists")
-        return dict(self.by_name)
+        return {name: numpy.asarray(it) for name, it in self.by_name.items()}
 
     def to_pandas(self) -> Any:
         """A pandas.DataFrame, with the time as index where it was asked for.  Raises ImportError where pandas isn't there."""

@@ -231,7 +231,8 @@ class Recording:
         channel     the channels whose packets have rows, one number or several; None is all
         time        the column of the seconds, or the columns of the seconds and of their binary fraction: the table has a time
                     for each row then.  One that is out of range is NaT, and `bad_times` counts these
-        epoch       the time of second 0, as "2000-01-01", a datetime, numpy.datetime64 or pandas.Timestamp; needed with `time`
+        epoch       the time of second 0, as "2000-01-01", a datetime, numpy.datetime64 or pandas.Timestamp, or `TAI`, `GPS`, `J2000`
+                    or `UNIX`; needed with `time`
         encoding    of `str` fields: they are text in this encoding, and `bytes` without it
         errors      what becomes of octets that aren't in the encoding, as `bytes.decode` has it
         blocks      how many rows a table has: tables come one by one then, two in memory.  The last has all `short_packets`

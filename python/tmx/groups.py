@@ -7,12 +7,12 @@ import os
 from collections.abc import Iterator
 from dataclasses import dataclass, field
 
-from .arguments import Number, Numbers, number
+from .arguments import APPLICATIONS, CHANNELS, Number, Numbers, number, numbers
+from .definition import Name
 from .errors import DisagreementError
 from .leads import whole_packets
 from .lines import Broken, Group, Line, Stray, read_lines
 from .notes import numbered, warn, warn_of_nothing
-from .pairs import Chosen, chosen
 from .progress import Progress
 from .runs import Command, Runs, running, single_lines
 from .settings import Settings
@@ -53,16 +53,21 @@ Segments = list[tuple[int, bytes]]  # the sequence count and the data of each
 
 @dataclass
 class OpenGroups:
-    """The segments of groups that may become whole, by channel and application."""
+    """The segments of groups that may become whole, by channel and application.
 
-    chosen: Chosen
+    apids, channels   those that are wanted; None is all
+    secondary_header  how many octets are taken off a packet that has a secondary header
+    came              whether any segment came
+    """
+
+    apids: frozenset[int] | None
+    channels: frozenset[int] | None
     secondary_header: int
-    segments: dict[tuple[int, int], Segments]
+    segments: dict[tuple[int, int], Segments] = field(default_factory=dict)
     came: bool = False
 
     def is_chosen(self, channel: int, apid: int) -> bool:
-        apids, channels = self.chosen.apids, self.chosen.channels
-        return (apids is None or apid in apids) and (channels is None or channel in channels)
+        return (self.apids is None or apid in self.apids) and (self.channels is None or channel in self.channels)
 
     def take(self, channel: int, apid: int, packet: bytes) -> None:
         """Holds a packet of a chosen application, where it may be one of a group that becomes whole."""
@@ -89,15 +94,16 @@ class OpenGroups:
 
 
 def groups(
-    source: Source, settings: str | os.PathLike[str] | Settings, apid: Numbers, channel: Numbers, header: Number, progress: Progress
+    source: Source, settings: Name | Settings, apid: Numbers, channel: Numbers, header: Number, progress: Progress
 ) -> Iterator[JoinedGroup | Broken | Stray]:
     """The groups of a recording.  Refuses wrong arguments at once."""
-    wanted = OpenGroups(chosen(apid, channel), number("secondary_header", header, range(65537)), {})
+    chosen = numbers("apid", apid, APPLICATIONS), numbers("channel", channel, CHANNELS)
+    wanted = OpenGroups(*chosen, number("secondary_header", header, range(65537)))
     return read_groups(source, settings, wanted, progress)
 
 
 def read_groups(
-    source: Source, settings: str | os.PathLike[str] | Settings, wanted: OpenGroups, progress: Progress
+    source: Source, settings: Name | Settings, wanted: OpenGroups, progress: Progress
 ) -> Iterator[JoinedGroup | Broken | Stray]:
     listed = Command(["packets", "--binary", "--report", os.devnull])
     reported = Command(["extract"], reads="report")
@@ -105,8 +111,8 @@ def read_groups(
         yield from joined(runs, wanted)
         runs.finish()
     if not warn_of_nothing(runs, settings) and not wanted.came:
-        apids, channels = wanted.chosen.apids, wanted.chosen.channels
-        said = [numbered(*it) for it in (("application", apids or ()), ("channel", channels or ())) if it[1]]
+        chosen = ("application", wanted.apids), ("channel", wanted.channels)
+        said = [numbered(word, them) for word, them in chosen if them]
         warn(f"no segment of a group{' of ' if said else ''}{' on '.join(said)}")
 
 

@@ -1,18 +1,20 @@
 """What raw values of fields mean: labels, calibrated values, texts and times, each in a column before its raw one."""
 
-import copy
 import math
 from bisect import bisect_right
-from collections.abc import Iterable, Mapping, Sequence
+from collections.abc import Mapping, Sequence
 from dataclasses import dataclass
 from itertools import compress
-from typing import Any, Protocol
+from typing import TYPE_CHECKING, Any, Protocol
 
+from .arrays import objects
 from .definition import Column, column_named
 from .errors import ColumnError
-from .fields import Fields
 from .time_codes import Ticks, TimeCode
 from .values import module
+
+if TYPE_CHECKING:
+    from .fields import Fields
 
 RAW = "_raw"  # how the name of a raw column ends
 
@@ -158,16 +160,6 @@ class Text:
         return objects([it.decode(self.encoding, "replace") for it in octets])
 
 
-def objects(values: Sequence[Any]) -> Any:
-    """Values of any kind as a column."""
-    numpy = module("numpy")
-    if numpy is None:
-        return list(values)
-    found = numpy.empty(len(values), object)
-    found[:] = values
-    return found
-
-
 @dataclass(frozen=True)
 class Timed:
     """The time of each value."""
@@ -200,7 +192,7 @@ def decoders_of(
     return found
 
 
-def decoded(fields: Fields, decoders: Mapping[str, Decoder]) -> Fields:
+def decoded(fields: "Fields", decoders: Mapping[str, Decoder]) -> "Fields":
     """The table with decoded columns; behind each stands the raw one.  Raises ColumnError where one isn't there, or two are."""
     for name in decoders:
         column_named(fields.columns, name)
@@ -219,7 +211,7 @@ def decoded(fields: Fields, decoders: Mapping[str, Decoder]) -> Fields:
             column = Column(f"{column.name}{RAW}", column.type, column.bits)
         columns.append(column)
         values.append(raw)
-    found = with_columns(fields, columns, values)
+    found = fields.with_columns(columns, values)
     found.bad_times = bad
     return found
 
@@ -230,21 +222,13 @@ def no_times(times: Any) -> int:
     return int(times.count(None) if numpy is None else numpy.isnat(times).sum())
 
 
-def with_columns(fields: Fields, columns: Iterable[Column], values: Iterable[Any]) -> Fields:
-    """A table with other columns, and all else of this one."""
-    found = copy.copy(fields)
-    found.columns = list(columns)
-    found.by_name = {it.name: value for it, value in zip(found.columns, values)}
-    return found
-
-
-def rows_where(fields: Fields, kept: Sequence[bool]) -> Fields:
+def rows_where(fields: "Fields", kept: Sequence[bool]) -> "Fields":
     """The rows of a table for which this holds."""
     numpy = module("numpy")
 
     def chosen(values: Any) -> Any:
         return list(compress(values, kept)) if numpy is None else values[numpy.array(kept, bool)]
 
-    found = with_columns(fields, fields.columns, [chosen(it) for it in fields.values()])
+    found = fields.with_columns(fields.columns, [chosen(it) for it in fields.values()])
     found.time = None if fields.time is None else chosen(fields.time)
     return found

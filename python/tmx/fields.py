@@ -1,5 +1,6 @@
 """Fields of an application's packets: a table of columns by name."""
 
+import copy
 import csv
 import io
 import os
@@ -7,15 +8,18 @@ import shutil
 import tempfile
 from collections.abc import Collection, Iterable, Iterator, Mapping, Sequence
 from contextlib import contextmanager
-from dataclasses import dataclass
+from dataclasses import dataclass, field
 from itertools import chain, islice
-from typing import IO, TYPE_CHECKING, Any
+from typing import IO, Any
 
+from .arrays import single_columns, with_arrays
+from .decoding import Polynomial, Spline, decoded, decoders_of
 from .definition import Column, column_named, long_values, read_definition
 from .errors import ColumnError, DisagreementError, word_behind
 from .lines import ShortPacket, read_lines
 from .notes import numbered, warn, warn_of_nothing
 from .progress import Progress
+from .rests import Rests
 from .runs import Command, Runs, line_blocks, running
 from .settings import Settings
 from .source import Source, refuse_to_overwrite
@@ -24,9 +28,6 @@ from .tables import html_table, text_table
 from .time_codes import Ticks, TimeCode
 from .times import Epoch, times
 from .values import Encoding, Kinds, module
-
-if TYPE_CHECKING:
-    from .decoding import Polynomial, Spline
 
 Name = str | os.PathLike[str]
 
@@ -83,7 +84,7 @@ class Fields(Mapping[str, Any]):
         self,
         *,
         labels: Mapping[str, Mapping[int | range, str]] | None = None,
-        curves: Mapping[str, "Sequence[float] | Polynomial | Spline"] | None = None,
+        curves: Mapping[str, Sequence[float] | Polynomial | Spline] | None = None,
         times: Mapping[str, TimeCode | Ticks] | None = None,
     ) -> "Fields":
         """The table with what the raw values of columns mean.  Behind such a column stands the raw one, with `_raw` in its name.
@@ -94,9 +95,14 @@ class Fields(Mapping[str, Any]):
 
         Raises ColumnError where a column isn't there, or isn't of a fitting type.
         """
-        from .decoding import decoded, decoders_of
-
         return decoded(self, decoders_of(labels, curves, times))
+
+    def with_columns(self, columns: Sequence[Column], values: Sequence[Any]) -> "Fields":
+        """A table with other columns, and all else of this one."""
+        found = copy.copy(self)
+        found.columns = list(columns)
+        found.by_name = {it.name: value for it, value in zip(columns, values)}
+        return found
 
     def to_numpy(self) -> dict[str, Any]:
         """The columns as arrays of numpy, by name.  Raises ImportError where numpy isn't there."""
@@ -111,7 +117,7 @@ class Fields(Mapping[str, Any]):
         if pandas is None:
             raise ImportError("pandas is not there: without it columns are arrays of numpy, or lists")
         index = None if self.time is None else pandas.DatetimeIndex(self.time, name="time")
-        return pandas.DataFrame(self.by_name, index=index, copy=True)
+        return pandas.DataFrame(single_columns(self), index=index, copy=True)
 
     def shown(self) -> tuple[list[str], list[list[Any]]]:
         """The head and the first rows."""
@@ -177,6 +183,8 @@ class Table:
     time              what makes the time of each row
     report            a file that the report goes to
     step              the words of a job that goes on, or stops early
+    arrays            the columns of octets that are arrays, and of what
+    rest              what gives the octets behind the fields
     """
 
     definition: Name
@@ -186,6 +194,15 @@ class Table:
     time: Time | None = None
     report: Name | None = None
     step: Sequence[str] = ()
+    arrays: Mapping[str, Any] = field(default_factory=dict)
+    rest: Rests | None = None
+
+    def whole(self, found: Fields) -> Fields:
+        """The table with its times, its arrays and what follows its fields."""
+        if self.time is not None:
+            self.time.add_to(found)
+        found = with_arrays(found, self.arrays) if self.arrays else found
+        return found if self.rest is None else self.rest.add_to(found)
 
     def short_lines(self, report: Iterable[bytes], missing: set[str]) -> Iterator[bytes]:
         """The lines of packets that are too short for a row.  Their channels leave `missing`."""
@@ -204,8 +221,11 @@ def read_tables(
     missing = set(table.channels or ())
     with report_file(table, source, settings) as report:
         line = ["fields", "--definition", os.fspath(table.definition), "--apid", str(table.apid), "--report", report.name]
-        with running(source, settings, Command([*line, *table.step]), progress=progress) as runs:
+        others = [] if table.rest is None else [table.rest.command]
+        with running(source, settings, Command([*line, *table.step]), *others, progress=progress) as runs:
             columns, lines = lines_of(table, runs)
+            if table.rest is not None:
+                table.rest.read(runs, table.definition)
             if table.channels is not None:
                 lines = of_channels(lines, table.channels, missing)
             tables = tables_of(table, columns, lines, rows)
@@ -213,6 +233,8 @@ def read_tables(
             for following in tables:
                 yield last
                 last = following
+            if table.rest is not None:
+                table.rest.finish()
             runs.finish()
         last.short_lines = list(table.short_lines(report, missing))
     if reads_all(table.step):
@@ -253,9 +275,7 @@ def tables_of(table: Table, columns: Sequence[Column], lines: Iterator[str], row
     while True:
         found = Fields(columns, kinds.read(islice(lines, rows), done))
         if found.rows or not done:
-            if table.time is not None:
-                table.time.add_to(found)
-            yield found
+            yield table.whole(found)
         done += found.rows
         if found.rows != rows:
             return

@@ -2,9 +2,9 @@
 
 import os
 import re
-from collections.abc import Iterator, Sequence
+from collections.abc import Iterator, Mapping, Sequence
 from contextlib import ExitStack
-from typing import IO, overload
+from typing import IO, Any, overload
 
 from .arguments import APPLICATIONS, CHANNELS, RECORDS, Number, Numbers, number, numbers
 from .checkpoints import Name, NewFile
@@ -35,8 +35,10 @@ from .notes import numbered, settings_of, warn, warn_of_nothing
 from .pairs import chosen, spelled
 from .programs import find_program
 from .progress import Progress
+from .rests import Rests
 from .runs import Command, running, single_lines, whole_lines
 from .settings import Settings
+from .skipped import skipped
 from .source import Source, refuse_to_overwrite
 from .steps import Job, follow, reads_all, report_words, step_words
 from .summary import Summary, summary_of
@@ -180,6 +182,8 @@ class Recording:
         epoch: Epoch | None = None,
         encoding: str | None = None,
         errors: str = "strict",
+        arrays: Mapping[str, Any] | None = None,
+        rest: str | None = None,
         report: Name | None = None,
         checkpoint: Name | None = None,
         resume: Name | None = None,
@@ -199,6 +203,8 @@ class Recording:
         epoch: Epoch | None = None,
         encoding: str | None = None,
         errors: str = "strict",
+        arrays: Mapping[str, Any] | None = None,
+        rest: str | None = None,
         report: Name | None = None,
         checkpoint: Name | None = None,
         resume: Name | None = None,
@@ -217,6 +223,8 @@ class Recording:
         epoch: Epoch | None = None,
         encoding: str | None = None,
         errors: str = "strict",
+        arrays: Mapping[str, Any] | None = None,
+        rest: str | None = None,
         report: Name | None = None,
         checkpoint: Name | None = None,
         resume: Name | None = None,
@@ -235,16 +243,40 @@ class Recording:
                     or `UNIX`; needed with `time`
         encoding    of `str` fields: they are text in this encoding, and `bytes` without it
         errors      what becomes of octets that aren't in the encoding, as `bytes.decode` has it
+        arrays      for columns of `str` of what they are arrays: a type of numpy, as ">u2", or `uint12` and `int12` of so many bits,
+                    one behind another.  The column is a two-dimensional array then; without numpy a list of tuples
+        rest        the name of a column for the octets behind the last field, as many as each packet has
         blocks      how many rows a table has: tables come one by one then, two in memory.  The last has all `short_packets`
 
         The other words are those of `packets`, but the program writes `checkpoint`.  Raises DefinitionError, ColumnError, and
         UnicodeDecodeError, which names column and row, where a text isn't in the encoding.
         """
-        packets = number("apid", apid, APPLICATIONS), spelled(numbers("channel", channel, CHANNELS))
+        chosen = number("apid", apid, APPLICATIONS), numbers("channel", channel, CHANNELS)
         step = step_words(checkpoint, resume, stop_after)
-        table = Table(definition, *packets, encoding_of(encoding, errors), time_of(time, epoch), report, step)
+        if rest is not None and step:
+            raise ValueError("`rest` goes without `checkpoint`, `resume` and `stop_after`")
+        read = encoding_of(encoding, errors, arrays or ()), time_of(time, epoch), report, step
+        more = arrays or {}, None if rest is None else Rests(rest, *chosen)
+        table = Table(definition, chosen[0], spelled(chosen[1]), *read, *more)
         rows = None if blocks is None else number("blocks", blocks, RECORDS)
         tables = read_tables(table, self.source, self.settings, rows, progress)
+        return next(tables) if rows is None else tables
+
+    @overload
+    def skipped(self, *, blocks: None = None) -> Fields: ...
+
+    @overload
+    def skipped(self, *, blocks: Number) -> Iterator[Fields]: ...
+
+    def skipped(self, *, blocks: Number | None = None) -> Fields | Iterator[Fields]:
+        """The octets of each record `before` and `after` its frame, as a table with a row for each record, good or bad.
+
+        blocks  how many rows a table has: tables come one by one then, in constant memory
+
+        Octets behind the last whole record are left out.  Raises SettingsError, OSError, and what reading a stream raises.
+        """
+        rows = None if blocks is None else number("blocks", blocks, RECORDS)
+        tables = skipped(self.source, self.settings, rows)
         return next(tables) if rows is None else tables
 
     def loss_map(self, title: str = "What was lost", *, progress: Progress = False) -> LossMap:

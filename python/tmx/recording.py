@@ -38,6 +38,7 @@ from .progress import Progress
 from .rests import Rests
 from .runs import Command, running, single_lines, whole_lines
 from .settings import Settings
+from .several import Read, side_by_side
 from .skipped import skipped
 from .source import Source, refuse_to_overwrite
 from .steps import Job, follow, reads_all, report_words, step_words
@@ -262,13 +263,44 @@ class Recording:
         tables = read_tables(table, self.source, self.settings, rows, progress)
         return next(tables) if rows is None else tables
 
-    @overload
-    def skipped(self, *, blocks: None = None) -> Fields: ...
+    def tables(
+        self,
+        definitions: Mapping[int, Name],
+        *,
+        channel: Numbers = None,
+        time: str | Sequence[str] | None = None,
+        epoch: Epoch | None = None,
+        encoding: str | None = None,
+        errors: str = "strict",
+        progress: Progress = False,
+    ) -> dict[int, Fields]:
+        """The fields of several applications, by their numbers: a table for each definition.  A stream is read once.
+
+        The other words are those of `fields`, for all tables.  Raises what `fields` does.
+        """
+        wanted = {number("apid", apid, APPLICATIONS): definition for apid, definition in definitions.items()}
+        how: dict[str, Any] = {"channel": channel, "time": time, "epoch": epoch, "encoding": encoding, "errors": errors}
+
+        def reader(apid: int) -> Read:
+            """Reads the table of an application.  The first one shows how far it is."""
+            shown = progress if apid == next(iter(wanted)) else False
+
+            def read(given: IO[bytes] | None) -> Fields:
+                recording = self if given is None else Recording(given, self.settings)
+                table: Fields = recording.fields(wanted[apid], apid, progress=shown, **how)
+                return table
+
+            return read
+
+        return dict(zip(wanted, side_by_side(self.source, [reader(it) for it in wanted])))
 
     @overload
-    def skipped(self, *, blocks: Number) -> Iterator[Fields]: ...
+    def skipped(self, *, blocks: None = None, progress: Progress = False) -> Fields: ...
 
-    def skipped(self, *, blocks: Number | None = None) -> Fields | Iterator[Fields]:
+    @overload
+    def skipped(self, *, blocks: Number, progress: Progress = False) -> Iterator[Fields]: ...
+
+    def skipped(self, *, blocks: Number | None = None, progress: Progress = False) -> Fields | Iterator[Fields]:
         """The octets of each record `before` and `after` its frame, as a table with a row for each record, good or bad.
 
         blocks  how many rows a table has: tables come one by one then, in constant memory
@@ -276,7 +308,7 @@ class Recording:
         Octets behind the last whole record are left out.  Raises SettingsError, OSError, and what reading a stream raises.
         """
         rows = None if blocks is None else number("blocks", blocks, RECORDS)
-        tables = skipped(self.source, self.settings, rows)
+        tables = skipped(self.source, self.settings, rows, progress)
         return next(tables) if rows is None else tables
 
     def loss_map(self, title: str = "What was lost", *, progress: Progress = False) -> LossMap:

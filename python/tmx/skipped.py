@@ -5,18 +5,19 @@ from collections.abc import Iterator
 from .arrays import objects
 from .definition import Column, Name
 from .fields import Fields
+from .progress import Progress, showing
 from .settings import Settings
 from .source import Source
 from .steps import record_length
 from .values import module
 
 
-def skipped(source: Source, settings: Name | Settings, rows: int | None) -> Iterator[Fields]:
+def skipped(source: Source, settings: Name | Settings, rows: int | None, progress: Progress) -> Iterator[Fields]:
     """Tables of so many records; without a number one of all.  Only the first may have none."""
     length = record_length(settings)
     known = settings if isinstance(settings, Settings) else Settings.read(settings)
     done, befores, afters = 0, list[bytes](), list[bytes]()
-    for record in records_of(source, length):
+    for record in records_of(source, length, progress):
         befores.append(record[: known.skip_before])
         afters.append(record[length - known.skip_after :])
         if len(befores) == rows:
@@ -26,17 +27,20 @@ def skipped(source: Source, settings: Name | Settings, rows: int | None) -> Iter
         yield table_of(befores, afters, done, known)
 
 
-def records_of(source: Source, length: int) -> Iterator[bytes]:
+def records_of(source: Source, length: int, progress: Progress) -> Iterator[bytes]:
     """The whole records of a recording."""
     rest = b""
     source.open_stream()
     try:
-        while block := source.read_block():
-            rest += block
-            end = len(rest) // length * length
-            for at in range(0, end, length):
-                yield rest[at : at + length]
-            rest = rest[end:]
+        with showing(progress, source.length()) as show:
+            while block := source.read_block():
+                rest += block
+                end = len(rest) // length * length
+                for at in range(0, end, length):
+                    yield rest[at : at + length]
+                rest = rest[end:]
+                if show is not None:
+                    show(source.fed)
     finally:
         source.close()
 

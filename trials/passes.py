@@ -5,9 +5,10 @@ rest, and ends at once.
 """
 
 import fcntl
+import hashlib
 import os
 import pty
-import re
+import select
 import signal
 import subprocess
 import tempfile
@@ -15,21 +16,13 @@ import termios
 import time
 from pathlib import Path
 
-README = Path(__file__).resolve().parent.parent / "README.md"
+from blocks import CLONE, COMMAND, block_of
+
 # Seconds: other trials may have the processors and the disk.
 LIMIT = 60
 # What stands on the PATH for `nc`, and for tmx, whose number the trial has to know.
 FEEDER = "#!/bin/sh\ncat first\nuntil [ -e go ]; do sleep 0.01; done\nexec cat rest\n"
 PROGRAM = '#!/bin/sh\necho $$ >number.new\nmv number.new number\nexec {} "$@"\n'
-
-
-def commands_of_readme():
-    """The block of README.md that runs nc and tmx, without what it is indented by."""
-    blocks = re.findall(r"(?:^ {4}.*\n)+", README.read_text(encoding="utf-8"), re.M)
-    blocks = [it for it in blocks if "nc -l" in it and " tmx packets " in it]
-    if len(blocks) != 1:
-        raise SystemExit(f"README.md has {len(blocks)} blocks with nc and tmx, not one")
-    return re.sub(r"^ {4}", "", blocks[0], flags=re.M)
 
 
 def until(is_done):
@@ -49,20 +42,41 @@ def prepare(terminal):
         fcntl.ioctl(terminal, termios.TIOCSCTTY, 0)
 
 
+class Screen:
+    """A terminal, and all that was drawn on it."""
+
+    def __init__(self):
+        self.keyboard, self.terminal = pty.openpty()
+        self.drawn = b""
+
+    def shows(self, text):
+        """Whether this was drawn by now."""
+        while select.select([self.keyboard], [], [], 0)[0]:
+            self.drawn += os.read(self.keyboard, 65536)
+        return text in self.drawn
+
+    def close(self):
+        os.close(self.keyboard)
+        os.close(self.terminal)
+
+
 class Pass:
     """The commands of README.md, running in a folder of their own over a recording that comes in two halves."""
 
-    def __init__(self, folder, tmx, settings, octets):
-        self.folder, self.octets, self.shell = folder, octets, None
+    def __init__(self, folder, tmx, settings, octets, word):
+        self.folder, self.octets, self.shell, self.commands = folder, octets, None, block_of("README.md", "nc -l", word)
         half = len(octets) // 2
         if settings is not None:
             self.put("s.toml", settings)
         self.put("first", octets[:half])
         self.put("rest", octets[half:])
         (folder / "bin").mkdir()
-        for name, text in ("nc", FEEDER), ("tmx", PROGRAM.format(tmx)):
+        programs = {"nc": FEEDER, "tmx": PROGRAM.format(tmx)} | {f"tmx-{it}": COMMAND.format(it) for it in ("watch", "report")}
+        for name, text in programs.items():
             self.put(f"bin/{name}", text.encode())
             (folder / "bin" / name).chmod(0o755)
+        self.variables = os.environ | {"PATH": f"{folder / 'bin'}:{os.environ['PATH']}", "TMX": str(tmx), "TERM": "xterm"}
+        self.variables |= {"PYTHONPATH": str(CLONE / "python"), "PYTHONDONTWRITEBYTECODE": "1"}
 
     def put(self, name, octets):
         (self.folder / name).write_bytes(octets)
@@ -72,12 +86,12 @@ class Pass:
 
     def start(self, out, terminal=None):
         """Starts a shell with the commands. At a terminal it gives each pipe a group of its own, as a user's shell does."""
-        words = ["bash", "-c", ("" if terminal is None else "set -m\n") + commands_of_readme()]
+        words = ["bash", "-c", ("" if terminal is None else "set -m\n") + self.commands]
         with open(self.folder / "errors", "wb") as errors:
             self.shell = subprocess.Popen(
                 words,
                 cwd=self.folder,
-                env=os.environ | {"PATH": f"{self.folder / 'bin'}:{os.environ['PATH']}"},
+                env=self.variables,
                 stdin=subprocess.DEVNULL if terminal is None else terminal,
                 stdout=out,
                 stderr=errors if terminal is None else terminal,
@@ -125,9 +139,9 @@ class Passes:
     def __init__(self, tmx, tell, settings, octets):
         self.tmx, self.tell, self.settings, self.octets = tmx, tell, settings, octets
 
-    def begin(self, settings=True):
+    def begin(self, settings=True, word=" tmx packets "):
         folder = Path(tempfile.mkdtemp(prefix="pass", dir="."))
-        return Pass(folder.resolve(), self.tmx, self.settings if settings else None, self.octets)
+        return Pass(folder.resolve(), self.tmx, self.settings if settings else None, self.octets, word)
 
     def watched(self, name, by_half, wanted):
         """A good pass: what its first half gives comes while it lasts, and all else by its end."""
@@ -177,6 +191,22 @@ class Passes:
         self.tell(name, interrupted.wrong_recording() or wrong)
         os.close(keyboard)
         os.close(terminal)
+
+    def shown(self, name, by_half, whole, summary, records):
+        """tmx-watch shows both halves and ends by Ctrl-C with the summary. Then tmx-report writes a page of all records."""
+        shown, screen = self.begin(word="tmx-watch"), Screen()
+        shown.start(screen.terminal, screen.terminal)
+        wrong = "" if until(lambda: screen.shows(by_half)) else "the first half isn't shown"
+        shown.go_on()
+        wrong = wrong or ("" if until(lambda: screen.shows(whole)) else "the second half isn't shown")
+        os.write(screen.keyboard, b"\x03")
+        until(lambda: screen.shows(summary) and shown.shell.poll() is not None)
+        wrong = wrong or ("" if screen.shows(summary) else f"no {summary!r} at the end, but {screen.drawn[-200:]!r}")
+        wrong = shown.wrong_recording() or wrong or shown.wrong_end(0)
+        page, digest = shown.has("pass.html"), hashlib.sha256(self.octets).hexdigest()
+        wanted = [f"<tr><th scope=\"row\">Records</th><td>{records:,}</td></tr>".encode(), digest.encode(), b"</html>"]
+        self.tell(name, wrong or ", ".join(f"no {it!r} in pass.html of {len(page)} octets" for it in wanted if it not in page))
+        screen.close()
 
     def with_faults(self):
         """Whatever becomes of the program, the recording is whole. No pipe holds its half."""

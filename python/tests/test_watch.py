@@ -20,7 +20,7 @@ from pathlib import Path
 from termios import TIOCSWINSZ
 from unittest import mock
 
-from support import PACKAGE, RECORDING, SETTINGS, TestCase, damaged, example, lines, tmx
+from support import PACKAGE, RECORDING, SETTINGS, TestCase, damaged, example, lines, needs, tmx
 
 from tmx import screen, watching
 from tmx.totals import Rate, Rates, Totals
@@ -152,8 +152,15 @@ class Counted(TestCase):
             totals.add_frames(b"bad record=0 fault=crc\npacker record=1\n", 0.0)
         with self.assertRaisesRegex(tmx.VersionError, "packer record=1"):
             totals.add_packets(known + b"packer record=1\n", 0.0)
-        with self.assertRaisesRegex(tmx.VersionError, "packet record=0"):
-            totals.add_packets(known, 0.0)
+        for line in (known, b"packet record=0 a b c d e f g h i\n"):
+            with self.assertRaisesRegex(tmx.VersionError, "packet record=0"):
+                totals.add_packets(line, 0.0)
+
+    @needs("numpy")
+    def test_without_numpy(self) -> None:
+        with mock.patch("tmx.totals.module", lambda name: None):
+            self.test_files_that_grow()
+            self.test_a_line_that_is_none()
 
 
 class Times(TestCase):

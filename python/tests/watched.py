@@ -44,7 +44,7 @@ def until(run: subprocess.Popen[bytes], records: int) -> None:
 
 
 def ended(run: subprocess.Popen[bytes]) -> None:
-    run.send_signal(signal.SIGINT)
+    run.send_signal(signal.SIGTERM)
     run.communicate()
     if run.returncode:
         raise SystemExit(f"status {run.returncode} of watch")
@@ -69,7 +69,7 @@ def at_rate(octets: bytes, recording: Path, settings: str, seconds: float) -> No
 
 
 def catching_up(octets: bytes, recording: Path, settings: str, length: int, record: int) -> None:
-    """Says how fast it reads a file of so many octets that is there already."""
+    """Says how fast it reads a file of so many octets that is there already, also by its own processor time."""
     with open(recording, "wb") as file:
         while file.tell() < length:
             file.write(octets)
@@ -77,8 +77,9 @@ def catching_up(octets: bytes, recording: Path, settings: str, length: int, reco
     began = time.monotonic()
     run = started(recording, settings, subprocess.PIPE)
     until(run, length // record)
-    took = time.monotonic() - began
-    print(f"{length} octets in {took:.2f} s: {length / took / 1e6:.0f} MB/s")
+    took, own = time.monotonic() - began, spent(run.pid)
+    speed, cost = length / took / 1e6, length / own / 1e6
+    print(f"{length} octets in {took:.2f} s: {speed:.0f} MB/s, and {cost:.0f} MB in a second of its own")
     ended(run)
 
 

@@ -3,8 +3,10 @@
 import re
 from collections import Counter, deque
 from dataclasses import dataclass, field
+from typing import Any
 
 from .lines import unknown_line
+from .values import module
 
 SPAN = 10.0  # seconds of the rates that are shown
 SPACE = 0.2  # seconds between two times that are kept for them
@@ -12,7 +14,7 @@ REPORTED = 5  # lines of the report that are shown
 
 BAD = re.compile(rb"bad record=[0-9]+ fault=(.*)\n|short record=[0-9]+ octets=(.*)\n")
 # A match goes to the end of its line, where the next one begins, and has no class but `[^ ]`: it is a third faster so.
-PACKET = re.compile(rb"packet record=[^ ]+ channel=(.) from=[^ ]+ at=[^ ]+ type=.. secondary=[^ ]+ apid=([^ ]+) .*\n")
+PACKET = re.compile(rb"packet record=[^ ]++ channel=(.) from=[^ ]++ at=[^ ]++ type=.. secondary=[^ ]++ apid=([^ ]++) .*+\n")
 LOST = re.compile(
     rb"^(?:mastergap|(gap|drop)) record=[0-9]+(?: channel=([0-7]))? .*?(?:missing|octets)=([0-9]+)", re.MULTILINE
 )
@@ -47,6 +49,7 @@ class Totals:
     applications  by channel and number
     reported      the last lines of the report, with the clock times at which they came; `lines` is how many came
     last_good     when the last good frame came
+    numpy         the package of this name, where it is there
     """
 
     chosen: frozenset[int] | None = None
@@ -59,6 +62,7 @@ class Totals:
     reported: deque[tuple[str, str]] = field(default_factory=lambda: deque(maxlen=REPORTED))
     lines: int = 0
     last_good: float | None = None
+    numpy: Any = field(default_factory=lambda: module("numpy"))
 
     @property
     def bad(self) -> int:
@@ -72,7 +76,7 @@ class Totals:
         """Adds whole lines of `tmx frames`.  Raises VersionError where one is none."""
         number, good = lines.count(b"\n"), 0
         for channel in range(8):
-            if frames := lines.count(b" channel=%d " % channel):
+            if frames := lines.count(b" channel=%d master=" % channel):
                 good += frames
                 self.last_good = now
                 if self.chosen is None or channel in self.chosen:
@@ -96,11 +100,11 @@ class Totals:
 
     def add_packets(self, lines: bytes, now: float) -> None:
         """The same of `tmx packets`."""
-        found = Counter(PACKET.findall(lines))
-        if found.total() != lines.count(b"\n"):
+        found = counts_by_numpy(self.numpy, lines) if self.numpy else counts_by_lines(lines)
+        if found is None:
             raise unknown_line(other_line(lines, (b"packet ",)))
         for (channel, apid), packets in found.items():
-            application = self.applications.setdefault((int(channel), int(apid)), ApplicationTotals())
+            application = self.applications.setdefault((channel, apid), ApplicationTotals())
             application.packets += packets
             application.count = last_count(lines, channel, apid)
             application.came = now
@@ -127,11 +131,39 @@ def other_line(lines: bytes, words: tuple[bytes, ...]) -> str:
     return next((it for it in found if not it.startswith(words)), found[0]).decode(errors="replace")
 
 
-def last_count(lines: bytes, channel: bytes, apid: bytes) -> int:
+Packets = dict[tuple[int, int], int]  # how many there are of each channel and application
+
+
+def counts_by_lines(lines: bytes) -> Packets | None:
+    """The packets of whole packet lines.  None where a line is none."""
+    found = Counter(PACKET.findall(lines))
+    if found.total() != lines.count(b"\n"):
+        return None
+    return {(int(channel), int(apid)): packets for (channel, apid), packets in found.items()}
+
+
+def counts_by_numpy(numpy: Any, lines: bytes) -> Packets | None:
+    """The same in less than half of the time.  A line is known by its spaces, and by the signs before both numbers."""
+    octets = numpy.frombuffer(lines, numpy.uint8)
+    spaces = numpy.flatnonzero(octets == ord(" "))
+    if len(spaces) != 10 * numpy.count_nonzero(octets == ord("\n")):
+        return None
+    channel, apid, end = spaces[1::10] + len(" channel="), spaces[6::10] + len(" apid="), spaces[7::10]
+    if any((octets.take(it - 1, mode="clip") != ord("=")).any() for it in (channel, apid)):
+        return None
+    numbers = numpy.zeros(len(end), int)
+    for place in range(4):
+        digits = octets.take(apid + place, mode="clip") & 15
+        numbers = numpy.where(apid + place < end, 10 * numbers + digits, numbers)
+    packets = numpy.bincount(numbers + 2048 * (octets[channel] & 7).astype(int))
+    return {divmod(int(it), 2048): int(packets[it]) for it in packets.nonzero()[0]}
+
+
+def last_count(lines: bytes, channel: int, apid: int) -> int:
     """The sequence count of an application's last packet.  The lines have one."""
-    end, of_channel = len(lines), b" channel=%b " % channel
+    end, of_channel = len(lines), b" channel=%d " % channel
     while True:
-        end = lines.rindex(b" apid=%b " % apid, 0, end)
+        end = lines.rindex(b" apid=%d " % apid, 0, end)
         if of_channel in lines[lines.rfind(b"\n", 0, end) + 1 : end]:
             return int(lines[lines.index(b" count=", end) + 7 :].partition(b" ")[0])
 

@@ -28,7 +28,7 @@ from .totals import Rates, Totals
 BLOCK = 1 << 18  # octets that are read at once
 PAUSE = 0.05  # seconds until it looks again whether something has come
 COUNTING = 0.25  # seconds until it counts again
-MUCH = 1 << 22  # octets of lines that are counted before
+MUCH = 1 << 19  # octets of lines that are counted before
 FASTEST = 2.5e7  # octets a second that a pipe takes in spite of these pauses
 REST = 1 << 22  # octets that are still read when it is to end, if they are there by then
 

@@ -158,9 +158,29 @@ wrong_end() {
     find . -maxdepth 1 -name e -o -name '.tmx*'
 }
 
+# What is wrong with an installation in the place of an older one that a signal ends once mv was called so many times: the program
+# is there at each time, and the next installation and its removal leave nothing of both.
+wrong_upgrade() {
+    local status=0
+    tree/install --prefix e >/dev/null
+    echo newer | tee -a tree/README.md >tree/docs/NEWER.md
+    echo "calls=0; mv() { command mv \"\$@\" || return; [ -x $PWD/e/bin/tmx ] || echo gone; [ \$((calls += 1)) != $1 ] || kill -TERM \$\$; }" >stop
+    BASH_ENV=$PWD/stop tree/install --prefix e >out 2>&1 || status=$?
+    rm tree/docs/NEWER.md
+    [ "$status:$(cat out)" = 1: ] || echo "it doesn't end there: status $status: $(cat out)"
+    tree/install --prefix e >/dev/null || echo "it isn't installed again"
+    find e -type f ! -path "e/$list" -printf '%P\n' | sort | diff - <(sed -n 's/^[^#]*  //p' "e/$list")
+    tree/install --remove --prefix e >/dev/null
+    ls -d e 2>/dev/null
+}
+
 # Installations that are ended: where pages are staged, at the first folders, at the list, in front of files, and behind one.
 ended() {
     local place
+    for place in 1 2 3 20; do
+        tell "an installation over an older one that is ended at mv $place leaves a program" "$(wrong_upgrade $place)"
+        rm -rf e
+    done
     for place in "find 1" "mkdir 1" "mkdir 3" "mv 1" "mv 2" "mv 6"; do
         # shellcheck disable=SC2086
         tell "an installation that is ended by a signal at $place leaves nothing" "$(wrong_end $place)"
@@ -306,5 +326,5 @@ install() {
     else
         skip 18 "the packages" "no dpkg-deb, or no strip"
     fi
-    plan 77
+    plan 81
 }

@@ -3,8 +3,8 @@
     memory.py KIND OCTETS
 
 KIND is `long`, packets of 65542 octets, or `short`, packets of 1021 octets, which is half of a data field; or `rows`, fields of
-short packets in blocks of 1000 rows.  The recording is 256 frames again and again, whose data fields whole packets fill; it has
-so many octets, rounded down to whole frames.
+short packets in blocks of 1000 rows; or `groups`, short packets as groups of eight.  The recording is 256 frames again and again,
+whose data fields whole packets fill; it has so many octets, rounded down to whole frames.
 """
 
 import json
@@ -16,7 +16,7 @@ from tempfile import NamedTemporaryFile
 from support import tmx
 
 FRAME, FIELD, FRAMES = 2048, 2042, 256
-LENGTHS = {"long": 65542, "short": 1021, "rows": 1021}
+LENGTHS = {"long": 65542, "short": 1021, "rows": 1021, "groups": 1021}
 DEFINITION = "name,data_type,bit_length\nA,uint,32\nB,str,64\n"
 
 
@@ -49,9 +49,18 @@ def starts_of(packets: bytes) -> list[int]:
     return found
 
 
-def cycle(length: int) -> tuple[bytes, int]:
+def grouped(packets: bytes) -> bytes:
+    """The same as groups of eight, the last one included."""
+    found = bytearray(packets)
+    for number, at in enumerate(starts_of(packets)):
+        flags = {0: 1, 7: 2}.get(number % 8, 0)
+        found[at + 2 : at + 4] = (flags << 14 | number).to_bytes(2, "big")
+    return bytes(found)
+
+
+def cycle(length: int, change=bytes) -> tuple[bytes, int]:
     """256 frames, and how many packets they have."""
-    packets = packets_of(length, FIELD * FRAMES)
+    packets = change(packets_of(length, FIELD * FRAMES))
     starts, frames = starts_of(packets), []
     for number in range(FRAMES):
         inside = [it - number * FIELD for it in starts if number * FIELD <= it < (number + 1) * FIELD]
@@ -67,7 +76,7 @@ def resident() -> int:
 
 
 def main(kind: str, octets: str) -> None:
-    frames, packets = cycle(LENGTHS[kind])
+    frames, packets = cycle(LENGTHS[kind], grouped if kind == "groups" else bytes)
     times = int(octets) // len(frames)
     recording = tmx.Recording(Again(frames, times), tmx.Settings(42, FRAME, False))
     found = {"packets": 0, "octets": 0}
@@ -77,6 +86,10 @@ def main(kind: str, octets: str) -> None:
             definition.flush()
             found["packets"] = sum(it.rows for it in recording.fields(definition.name, 100, blocks=1000))
         found["octets"] = FIELD * FRAMES * times
+    elif kind == "groups":
+        for group in recording.groups():
+            found["packets"] += 8
+            found["octets"] += len(group.octets) + 8 * 6
     else:
         for packet in recording.packets():
             found["packets"] += 1

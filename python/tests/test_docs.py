@@ -1,4 +1,4 @@
-"""The blocks of docs/PYTHON.md, run in order: what a block prints is what the block behind it says."""
+"""The blocks of docs/PYTHON.md and MISSIONS.md, run in order: what a block prints is what the block behind it says."""
 
 import contextlib
 import io
@@ -8,23 +8,30 @@ import unittest
 from support import CLONE, EXAMPLE, TestCase, needs
 
 BLOCK = re.compile(r"^```(\w*)\n(.*?)^```$", re.MULTILINE | re.DOTALL)
-PAGE = (CLONE / "docs" / "PYTHON.md").read_text()
-SECTIONS = {it.partition("\n")[0]: it for it in re.split("^## ", PAGE, flags=re.MULTILINE)}
+
+
+def sections_of(page: str) -> dict[str, str]:
+    """The sections of a page by their headings."""
+    text = (CLONE / "docs" / page).read_text()
+    return {it.partition("\n")[0]: it for it in re.split("^## ", text, flags=re.MULTILINE)}
+
+
+SECTIONS, MISSIONS = sections_of("PYTHON.md"), sections_of("MISSIONS.md")
 OTHERS = ["With pandas", "A plot"]  # sections that need other packages, which a line `Needs ..` names
 
 
 class Page(TestCase):
-    def run_sections(self, *heads: str) -> None:
+    def run_sections(self, *heads: str, sections: dict[str, str] = SECTIONS) -> None:
         self.folder.joinpath("example").symlink_to(EXAMPLE)
         names: dict = {}
         for head in heads:
-            blocks = BLOCK.findall(SECTIONS[head])
+            blocks = BLOCK.findall(sections[head])
             for (kind, text), (kind_behind, wanted) in zip(blocks, [*blocks[1:], ("python", "")]):
                 if kind == "python":
                     with self.subTest(section=head, block=text[:60]):
                         found = io.StringIO()
                         with contextlib.redirect_stdout(found):
-                            exec(compile(text, "PYTHON.md", "exec"), names)
+                            exec(compile(text, head, "exec"), names)
                         self.assertEqual(found.getvalue(), "" if kind_behind else wanted)
 
     def test_sections(self) -> None:
@@ -38,6 +45,13 @@ class Page(TestCase):
     @needs("numpy", "pandas", "matplotlib")
     def test_a_plot(self) -> None:
         self.run_sections("A recording", "Fields as columns", *OTHERS)
+
+    def test_missions(self) -> None:
+        self.run_sections(*(it for it in MISSIONS if it != "A plot"), sections=MISSIONS)
+
+    @needs("numpy", "pandas", "matplotlib")
+    def test_a_plot_of_a_mission(self) -> None:
+        self.run_sections("Containers", "Tables", "A plot", sections=MISSIONS)
 
 
 if __name__ == "__main__":

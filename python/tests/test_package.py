@@ -72,7 +72,7 @@ class Installed(TestCase):
 
 class Memory(TestCase):
     def test_a_gibibyte(self) -> None:
-        for kind in ("long", "short", "rows"):
+        for kind in ("long", "short", "rows", "groups"):
             ran = subprocess.run([sys.executable, TESTS / "memory.py", kind, str(GIBIBYTE)], capture_output=True, text=True)
             self.assertEqual(ran.returncode, 0, ran.stderr)
             found = json.loads(ran.stdout)

@@ -22,9 +22,10 @@ from support import ATTITUDE, EXAMPLE, PROGRAM, RECORDING, SETTINGS, TestCase, c
 
 import colours
 from tmx.damage import Span
-from tmx.loss_times import Code, Receipt, TimeError, code_of_lead, receipt_of
+from tmx.loss_times import Receipt, TimeError, receipt_of
 from tmx.report import Asked, Findings, find
 from tmx.report_page import COLOURS, page
+from tmx.time_codes import Code, code_of_lead
 
 GOOD, DAMAGED, LOST = "good", "damaged", "lost"
 FIELD, PACKET = 24, 12  # octets of a data field, which has two packets

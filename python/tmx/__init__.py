@@ -9,7 +9,9 @@ The program `tmx` does the work: the one that the environment variable TMX names
 one on the PATH.  docs/PYTHON.md is the guide.
 """
 
+from . import xtce
 from .checkpoints import CutBackError, cut_back, records_done
+from .decoding import Polynomial, Spline
 from .definition import Column
 from .engine import Engine, Given
 from .errors import (
@@ -32,6 +34,8 @@ from .errors import (
     VersionError,
 )
 from .fields import Fields
+from .groups import JoinedGroup
+from .leap_seconds import LeapSecondsError
 from .lines import (
     ApplicationCounts,
     Bad,
@@ -62,6 +66,8 @@ from .programs import Program, program
 from .recording import Item, Recording
 from .settings import Settings
 from .summary import Summary
+from .time_codes import Ticks, TimeCode
+from .xtce import XtceError
 
 __all__ = [
     "ApplicationCounts",
@@ -88,7 +94,9 @@ __all__ = [
     "Given",
     "Group",
     "Item",
+    "JoinedGroup",
     "KilledError",
+    "LeapSecondsError",
     "LibraryMissingError",
     "LossCounts",
     "LossMap",
@@ -98,6 +106,7 @@ __all__ = [
     "OutOfMemoryError",
     "Packet",
     "PacketArray",
+    "Polynomial",
     "Probe",
     "Program",
     "ProgramError",
@@ -111,15 +120,20 @@ __all__ = [
     "Short",
     "ShortPacket",
     "Slip",
+    "Spline",
     "Stray",
     "Summary",
+    "Ticks",
+    "TimeCode",
     "TmxWarning",
     "UsageError",
     "Vca",
     "VersionError",
+    "XtceError",
     "cut",
     "cut_back",
     "probe",
     "program",
     "records_done",
+    "xtce",
 ]

@@ -8,6 +8,7 @@ import time
 import warnings
 from collections.abc import Callable, Iterable
 
+from . import xtce
 from .checkpoints import cut_back, records_done
 from .errors import Error, ProgramError
 from .following import OUTPUTS, Wanted, done_in, losses, next_step, steps
@@ -174,7 +175,7 @@ def report_words(parser: argparse.ArgumentParser) -> None:
     parser.add_argument("--definition", metavar="FILE", help="the definition that has these columns")
     parser.add_argument("--apid", type=int, metavar="N", help="the application of --time")
     parser.add_argument("--channel", type=int, metavar="N", help="the only channel of its packets (all)")
-    parser.add_argument("--epoch", metavar="TIME", help="the UTC of second 0 of times")
+    parser.add_argument("--epoch", metavar="TIME", help="the UTC of second 0 of times, or TAI, GPS, J2000 or UNIX")
     parser.add_argument("--json", action="store_true", help="the same numbers as an object of JSON, and no page")
     parser.add_argument("recording", metavar="RECORDING", help="the recording; - is standard input, which is copied to a file")
 
@@ -187,6 +188,25 @@ def write_report(words: argparse.Namespace, parser: argparse.ArgumentParser) -> 
     asked = Asked(words.title, words.station, words.pass_, words.report, times)
     found, svg = find(words.recording, words.settings, asked)
     put((json.dumps(found.json(), indent=1) + "\n" if words.json else page(found, svg)).encode())
+
+
+def definition_words(parser: argparse.ArgumentParser) -> None:
+    parser.epilog = "Without CONTAINER it lists all containers, each with its application and its fields, or why it can't be read."
+    parser.add_argument("file", metavar="FILE", help="an XTCE file")
+    parser.add_argument("container", nargs="?", metavar="CONTAINER", help="a container, by its name or its path")
+
+
+def write_definition(words: argparse.Namespace, parser: argparse.ArgumentParser) -> None:
+    system = xtce.read(words.file)
+    if words.container is not None:
+        put(system.definition(words.container).encode())
+        return
+    for path in system.containers:
+        try:
+            apid, fields = system.apid(path), len(system.columns(path))
+            say([f"{path}: {f'application {apid}' if apid is not None else 'no application'}, {fields} field{'s' * (fields != 1)}"])
+        except xtce.XtceError as error:
+            say([f"{path}: refused: {error}"])
 
 
 def watch_words(parser: argparse.ArgumentParser) -> None:
@@ -226,6 +246,7 @@ COMMANDS: dict[str, Command] = {
     "follow": ("reads a growing recording in steps, each with files of its own", follow_words, follow_recording),
     "report": ("writes a page of what came of a pass, with each loss", report_words, write_report),
     "watch": ("shows what comes of a recording while it comes", watch_words, watch_recording),
+    "definition": ("makes a definition of fields of a container of an XTCE file", definition_words, write_definition),
     "cut-back": ("cuts outputs back to a checkpoint, after a run that was ended", cut_back_words, cut_files_back),
 }
 

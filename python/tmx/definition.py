@@ -15,6 +15,7 @@ from .errors import ColumnError
 Name = str | os.PathLike[str]
 
 LONGEST_VALUE = 1 << 21  # octets of a value in a CSV
+HEADER = 48  # bits of a packet's header, behind which the first field begins
 LEAD = (("tm_record", 32), ("tm_channel", 8), ("tm_apid", 16), ("tm_count", 16))  # with bits that hold the number
 
 
@@ -42,8 +43,7 @@ def read_definition(path: Name) -> list[Column]:
 
     Raises ColumnError where a field has the name of one of tmx's own columns.
     """
-    with long_values(), open(path, encoding="utf-8-sig", errors="surrogateescape", newline="") as file:
-        head, *rows = [[it.strip(" \t") for it in record] for record in csv.reader(file) if record]
+    head, *rows = records(path)
     name, kind, bits = (head.index(it) for it in ("name", "data_type", "bit_length"))
     columns = [Column(it, "uint", wide) for it, wide in LEAD]
     for row in rows:
@@ -53,6 +53,24 @@ def read_definition(path: Name) -> list[Column]:
             raise ColumnError(f"the definition has a field {row[name]!r}, which is a column of tmx itself: name it otherwise")
         columns.append(Column(row[name], row[kind], int(row[bits])))
     return columns
+
+
+def records(path: Name) -> list[list[str]]:
+    """The heading of a definition, and its fields."""
+    with long_values(), open(path, encoding="utf-8-sig", errors="surrogateescape", newline="") as file:
+        return [[it.strip(" \t") for it in record] for record in csv.reader(file) if record]
+
+
+def last_bit(path: Name) -> int:
+    """The bit behind the last one of any field, those of type `fill` included: a packet needs so many for a row."""
+    head, *rows = records(path)
+    length, offset = head.index("bit_length"), head.index("bit_offset") if "bit_offset" in head else None
+    end = last = HEADER
+    for row in rows:
+        begin = int(row[offset]) if offset is not None and row[offset] else end
+        end = begin + int(row[length])
+        last = max(last, end)
+    return last
 
 
 def column_named(columns: Sequence[Column], name: str) -> Column:

@@ -1,5 +1,6 @@
 """Fields of an application's packets: a table of columns by name."""
 
+import copy
 import csv
 import io
 import os
@@ -7,20 +8,24 @@ import shutil
 import tempfile
 from collections.abc import Collection, Iterable, Iterator, Mapping, Sequence
 from contextlib import contextmanager
-from dataclasses import dataclass
+from dataclasses import dataclass, field
 from itertools import compress
 from typing import IO, Any
 
+from .arrays import single_columns, with_arrays
+from .decoding import Polynomial, Spline, decoded, decoders_of
 from .definition import Column, column_named, long_values, read_definition
 from .errors import ColumnError, DisagreementError, word_behind
 from .lines import ShortPacket, read_lines
 from .notes import numbered, warn, warn_of_nothing
 from .progress import Progress
+from .rests import Rests
 from .runs import Command, Runs, line_blocks, running
 from .settings import Settings
 from .source import Source, refuse_to_overwrite
 from .steps import reads_all
 from .tables import html_table, text_table
+from .time_codes import Ticks, TimeCode
 from .times import Epoch, times
 from .values import Encoding, Kinds, module
 
@@ -75,11 +80,36 @@ class Fields(Mapping[str, Any]):
         """Whether no packet of the application came."""
         return not self.rows and not self.short_lines
 
+    def decoded(
+        self,
+        *,
+        labels: Mapping[str, Mapping[int | range, str]] | None = None,
+        curves: Mapping[str, Sequence[float] | Polynomial | Spline] | None = None,
+        times: Mapping[str, TimeCode | Ticks] | None = None,
+    ) -> "Fields":
+        """The table with what the raw values of columns mean.  Behind such a column stands the raw one, with `_raw` in its name.
+
+        labels  for a column the label of each number or range: a pandas.Categorical, or without pandas texts and None
+        curves  for a column the coefficients of a polynomial from the power 0 up, a Polynomial or a Spline: floats
+        times   for a column of octets a TimeCode, for one of numbers Ticks: times as `fields` gives them
+
+        Raises ColumnError where a column isn't there, or isn't of a fitting type.
+        """
+        return decoded(self, decoders_of(labels, curves, times))
+
+    def with_columns(self, columns: Sequence[Column], values: Sequence[Any]) -> "Fields":
+        """A table with other columns, and all else of this one."""
+        found = copy.copy(self)
+        found.columns = list(columns)
+        found.by_name = {it.name: value for it, value in zip(columns, values)}
+        return found
+
     def to_numpy(self) -> dict[str, Any]:
         """The columns as arrays of numpy, by name.  Raises ImportError where numpy isn't there."""
-        if module("numpy") is None:
+        numpy = module("numpy")
+        if numpy is None:
             raise ImportError("numpy is not there: without it columns are lists")
-        return dict(self.by_name)
+        return {name: numpy.asarray(it) for name, it in self.by_name.items()}
 
     def to_pandas(self) -> Any:
         """A pandas.DataFrame, with the time as index where it was asked for.  Raises ImportError where pandas isn't there."""
@@ -87,7 +117,7 @@ class Fields(Mapping[str, Any]):
         if pandas is None:
             raise ImportError("pandas is not there: without it columns are arrays of numpy, or lists")
         index = None if self.time is None else pandas.DatetimeIndex(self.time, name="time")
-        return pandas.DataFrame(self.by_name, index=index, copy=False)
+        return pandas.DataFrame(single_columns(self), index=index, copy=False)
 
     def shown(self) -> tuple[list[str], list[list[Any]]]:
         """The head and the first rows."""
@@ -153,6 +183,8 @@ class Table:
     time              what makes the time of each row
     report            a file that the report goes to
     step              the words of a job that goes on, or stops early
+    arrays            the columns of octets that are arrays, and of what
+    rest              what gives the octets behind the fields
     """
 
     definition: Name
@@ -162,6 +194,15 @@ class Table:
     time: Time | None = None
     report: Name | None = None
     step: Sequence[str] = ()
+    arrays: Mapping[str, Any] = field(default_factory=dict)
+    rest: Rests | None = None
+
+    def whole(self, found: Fields) -> Fields:
+        """The table with its times, its arrays and what follows its fields."""
+        if self.time is not None:
+            self.time.add_to(found)
+        found = with_arrays(found, self.arrays) if self.arrays else found
+        return found if self.rest is None else self.rest.add_to(found)
 
     def rows(self, pieces: Iterable[bytes], length: int, missing: set[int]) -> Iterator[bytes]:
         """The rows of the chosen channels, all being of so many octets.  Channels that come leave `missing`."""
@@ -192,17 +233,23 @@ def read_tables(
     missing = set(table.channels or ())
     with report_file(table, source, settings) as report:
         line = ["--definition", os.fspath(table.definition), "--apid", str(table.apid), "--report", report.name]
-        with running(source, settings, Command(["fields", "--binary", *line, *table.step]), progress=progress) as runs:
+        command = Command(["fields", "--binary", *line, *table.step])
+        others = [] if table.rest is None else [table.rest.command]
+        with running(source, settings, command, *others, progress=progress) as runs:
             first = runs.chunk(0)
             if not first and (fault := runs.runs[0].fault()):
                 raise fault
             kinds = Kinds(columns_of(table.definition), table.encoding)
             length = kinds.places()[-1]
+            if table.rest is not None:
+                table.rest.read(runs, table.definition)
             tables = tables_of(table, kinds, table.rows(whole_rows(runs, first, length), length, missing), rows)
             last = next(tables)
             for following in tables:
                 yield last
                 last = following
+            if table.rest is not None:
+                table.rest.finish()
             runs.finish()
         last.short_lines = list(table.short_lines(report, missing))
     if reads_all(table.step):
@@ -242,20 +289,14 @@ def tables_of(table: Table, kinds: Kinds, pieces: Iterable[bytes], rows: int | N
     length = kinds.places()[-1]
     done, kept, most = 0, bytearray(), None if rows is None else rows * length
 
-    def take(octets: bytearray) -> Fields:
-        found = Fields(kinds.columns, kinds.read(octets, done))
-        if table.time is not None:
-            table.time.add_to(found)
-        return found
-
     for piece in pieces:
         kept += piece
         while most is not None and len(kept) >= most:
-            yield take(kept[:most])
+            yield table.whole(Fields(kinds.columns, kinds.read(kept[:most], done)))
             del kept[:most]
             done += most // length
     if kept or not done:
-        yield take(kept)
+        yield table.whole(Fields(kinds.columns, kinds.read(kept, done)))
 
 
 def whole_rows(runs: Runs, octets: bytes, length: int) -> Iterator[bytes]:

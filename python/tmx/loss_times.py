@@ -1,13 +1,11 @@
 """When records came: the times that stand beside losses.
 
 A station may put a time of receipt into octets of each record that the settings pass over.  Else an application's packets may
-have a time on board.  Leap seconds are not known.
+have a time on board.
 """
 
-import math
 import os
 import re
-import struct
 from bisect import bisect_left, bisect_right
 from collections.abc import Iterable
 from dataclasses import dataclass
@@ -18,76 +16,18 @@ from .arguments import APPLICATIONS, CHANNELS, number
 from .definition import Name
 from .errors import Error
 from .fields import Fields
+from .leap_seconds import NANOSECONDS
 from .recording import Recording
 from .settings import Settings
-from .times import nanoseconds, time_at
+from .time_codes import EPOCHS, FORM, MOST_OCTETS, Code, code_of
+from .times import clock_of, time_at
 
-SECOND, DAY = 10**6, 86400 * 10**6  # in microseconds
-EPOCHS = {"cds": "1958-01-01", ">f8": "1970-01-01", "<f8": "1970-01-01"}  # of second 0, where none is given
-LAYOUTS = {6: (2, 0), 7: (3, 0), 8: (2, 2), 9: (3, 2), 10: (2, 4), 11: (3, 4)}  # of CDS: octets of days, and below a millisecond
-RECEIPT = re.compile(r"(0|[1-9][0-9]{0,3}):(?:(cds)(6|7|8|9|10|11)?|(cuc)(?:([1-7])\.([0-9]|10))?|([<>]f8))", re.IGNORECASE)
-MOST_OCTETS = 20  # of a time, its P-field included
+RECEIPT = re.compile(f"(0|[1-9][0-9]{{0,3}}):{FORM}", re.IGNORECASE)
 ROWS = 10000  # of packets that are held at once
 
 
 class TimeError(Error):
     """Times can't be read where they are said to be."""
-
-
-# Times in octets.
-
-
-@dataclass(frozen=True)
-class Code:
-    """How a time stands in octets.
-
-    kind    `cds`, `cuc`, `>f8` or `<f8`
-    coarse  the octets of days, of seconds, or of the float
-    fine    the octets of what is less than a millisecond, or than a second
-    lead    the octets before it that tell the others, the P-field of CCSDS 301.0-B-4; none if they aren't there
-    """
-
-    kind: str
-    coarse: int
-    fine: int = 0
-    lead: bytes = b""
-
-    @property
-    def octets(self) -> int:
-        return len(self.lead) + self.coarse + (4 if self.kind == "cds" else 0) + self.fine
-
-    def passed(self, octets: bytes) -> int | None:
-        """The microseconds behind second 0; None where the octets are no such time."""
-        if len(octets) < self.octets or not octets.startswith(self.lead):
-            return None
-        said = octets[len(self.lead) : self.octets]
-        if self.kind == "cds":
-            return self.of_days(said)
-        if self.kind == "cuc":
-            return int.from_bytes(said) * SECOND >> 8 * self.fine
-        (seconds,) = struct.unpack(f"{self.kind[0]}d", said)
-        return math.floor(seconds * SECOND) if math.isfinite(seconds) else None
-
-    def of_days(self, said: bytes) -> int | None:
-        days, milliseconds = int.from_bytes(said[: self.coarse]), int.from_bytes(said[self.coarse : self.coarse + 4])
-        below = int.from_bytes(said[self.coarse + 4 :]) // (SECOND if self.fine == 4 else 1)
-        if milliseconds * 1000 >= DAY + SECOND or below >= 1000:  # a day may have a leap second
-            return None
-        return days * DAY + milliseconds * 1000 + below
-
-
-def code_of_lead(kind: str, octets: bytes) -> Code | None:
-    """How a time stands in octets that begin with its P-field; None where it is none of this kind."""
-    first, second = octets[:2].ljust(2, b"\0")
-    if kind == "cds" and first & 0xF0 == 0x40 and first & 3 != 3:
-        return Code(kind, 3 if first & 4 else 2, (0, 2, 4)[first & 3], octets[:1])
-    if kind == "cuc" and first & 0x70 in (0x10, 0x20):
-        coarse, fine = (first >> 2 & 3) + 1, first & 3
-        if first < 0x80:
-            return Code(kind, coarse, fine, octets[:1])
-        if second < 0x80:
-            return Code(kind, coarse + (second >> 5 & 3), fine + (second >> 2 & 7), octets[:2])
-    return None
 
 
 @dataclass(frozen=True)
@@ -103,15 +43,7 @@ class Receipt:
 
     def code(self, octets: bytes) -> Code:
         """How the first record's time stands there.  Raises TimeError where no P-field does."""
-        said = RECEIPT.fullmatch(f"0:{self.form}")
-        assert said is not None
-        if said[7]:
-            return Code(self.form, 8)
-        if said[3]:
-            return Code("cds", *LAYOUTS[int(said[3])])
-        if said[5]:
-            return Code("cuc", int(said[5]), int(said[6]))
-        if (found := code_of_lead(self.form, octets)) is None:
+        if (found := code_of(self.form, octets)) is None:
             other = {"cds": "cds8", "cuc": "cuc4.2"}[self.form]
             raise TimeError(f"octet {self.place} of the first record is no P-field of {self.form}; a form without one is {other}")
         return found
@@ -124,9 +56,9 @@ def receipt_of(said: str, epoch: str | None) -> Receipt:
         raise ValueError(f"--receipt takes OFFSET:FORMAT, as 0:cds8, 4:cuc4.2 or 0:>f8, and not {said!r}")
     form = said.partition(":")[2].lower()
     if epoch is None and form.startswith("cuc"):
-        raise ValueError("--receipt of cuc needs --epoch: the UTC of its second 0, since leap seconds are not known")
+        raise ValueError("--receipt of cuc needs --epoch: TAI, GPS, or the UTC of its second 0")
     epoch = epoch or EPOCHS[form[:3]]
-    nanoseconds(epoch)
+    clock_of(epoch)
     return Receipt(int(found[1]), form, epoch)
 
 
@@ -150,7 +82,7 @@ def times_wanted(
     if receipt is not None:
         return receipt_of(receipt, epoch)
     if columns is not None and definition is not None and apid is not None and epoch is not None:
-        nanoseconds(epoch)
+        clock_of(epoch)
         where = None if channel is None else number("--channel", channel, CHANNELS)
         return Measured(definition, number("--apid", apid, APPLICATIONS), where, tuple(columns.split(",")), epoch)
     if (columns, definition, apid, channel, epoch) != (None, None, None, None, None):
@@ -188,7 +120,7 @@ class ReceiptTimes:
         """Raises TimeError where its octets aren't passed over, or are no time in the first record."""
         self.path, self.length, self.place = path, settings.record_length, receipt.place
         self.records = os.path.getsize(path) // self.length
-        self.begin = nanoseconds(receipt.epoch) // 1000
+        self.clock = clock_of(receipt.epoch)
         self.said = f"Times are those of receipt: octet {receipt.place} of each record, {receipt.form} from {receipt.epoch} on."
         if self.records:
             self.code = receipt.code(self.octets_of(0))
@@ -209,8 +141,8 @@ class ReceiptTimes:
 
     def before(self, record: int) -> datetime | None:
         """What is known at the recording's end has no time."""
-        passed = self.code.passed(self.octets_of(record)) if record < self.records else None
-        return None if passed is None else time_at(self.begin + passed)
+        passed = self.code.passed(self.octets_of(record), NANOSECONDS) if record < self.records else None
+        return None if passed is None else time_at(self.clock.utc(passed) // 1000)
 
     def after(self, record: int) -> datetime | None:
         return self.before(record)

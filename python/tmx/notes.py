@@ -5,6 +5,7 @@ import re
 import sys
 import warnings
 from collections.abc import Collection
+from contextvars import ContextVar
 
 from .errors import TmxWarning
 from .loss_map import listed
@@ -13,11 +14,15 @@ from .settings import Settings
 from .summary import no_record
 
 HERE = os.path.dirname(__file__)
+KEPT: ContextVar[list[str] | None] = ContextVar("KEPT", default=None)  # warnings that are kept
 NOTHING_GOOD = re.compile(r"no good frame|: packed by |\b0 good\b")  # in what the program says behind a run
 
 
 def warn(text: str) -> None:
-    """Warns at the line outside of this package that has called."""
+    """Warns at the line outside of this package that has called.  A thread of this package keeps it for that."""
+    if (kept := KEPT.get()) is not None:
+        kept.append(text)
+        return
     level, frame = 1, sys._getframe()
     while frame.f_back is not None and os.path.dirname(frame.f_code.co_filename) == HERE:
         level, frame = level + 1, frame.f_back

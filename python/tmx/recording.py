@@ -2,14 +2,15 @@
 
 import os
 import re
-from collections.abc import Iterator, Sequence
+from collections.abc import Iterator, Mapping, Sequence
 from contextlib import ExitStack
-from typing import IO, overload
+from typing import IO, Any, overload
 
 from .arguments import APPLICATIONS, CHANNELS, RECORDS, Number, Numbers, number, numbers
 from .checkpoints import Name, NewFile
 from .errors import ProgramMissingError, RunError
 from .fields import Fields, Table, read_tables, time_of
+from .groups import JoinedGroup, groups
 from .lines import (
     FRAMES,
     REPORT,
@@ -34,8 +35,11 @@ from .notes import numbered, settings_of, warn, warn_of_nothing
 from .packets import PacketArray, chosen
 from .programs import find_program
 from .progress import Progress
+from .rests import Rests
 from .runs import Command, running, single_lines, whole_lines
 from .settings import Settings
+from .several import Read, side_by_side
+from .skipped import skipped
 from .source import Source, refuse_to_overwrite
 from .steps import Job, follow, reads_all, report_words, step_words
 from .summary import Summary, summary_of
@@ -117,6 +121,20 @@ class Recording:
         """
         return Job(self.source, self.settings, chosen(apid, channel), report, progress=progress, is_whole=True).array()
 
+    def groups(
+        self, apid: Numbers = None, channel: Numbers = None, *, secondary_header: Number = 0, progress: Progress = False
+    ) -> Iterator[JoinedGroup | Broken | Stray]:
+        """The user data of each whole group of segments, and what is in no whole group, in the order of the report.
+
+        apid, channel     the applications and channels that are wanted, one number or several; None is all
+        secondary_header  how many octets are taken off the data of each packet whose header says that it has a secondary header;
+                          with 0 it is left in
+
+        A JoinedGroup has the joined data.  Broken says which group isn't whole, and why, and Stray which segment is in none.
+        Only the segments of open groups are held.  Raises DisagreementError where the recording changes meanwhile.
+        """
+        return groups(self.source, self.settings, apid, channel, secondary_header, progress)
+
     def follow(
         self,
         apid: Numbers = None,
@@ -173,6 +191,8 @@ class Recording:
         epoch: Epoch | None = None,
         encoding: str | None = None,
         errors: str = "strict",
+        arrays: Mapping[str, Any] | None = None,
+        rest: str | None = None,
         report: Name | None = None,
         checkpoint: Name | None = None,
         resume: Name | None = None,
@@ -192,6 +212,8 @@ class Recording:
         epoch: Epoch | None = None,
         encoding: str | None = None,
         errors: str = "strict",
+        arrays: Mapping[str, Any] | None = None,
+        rest: str | None = None,
         report: Name | None = None,
         checkpoint: Name | None = None,
         resume: Name | None = None,
@@ -210,6 +232,8 @@ class Recording:
         epoch: Epoch | None = None,
         encoding: str | None = None,
         errors: str = "strict",
+        arrays: Mapping[str, Any] | None = None,
+        rest: str | None = None,
         report: Name | None = None,
         checkpoint: Name | None = None,
         resume: Name | None = None,
@@ -224,19 +248,75 @@ class Recording:
         channel     the channels whose packets have rows, one number or several; None is all
         time        the column of the seconds, or the columns of the seconds and of their binary fraction: the table has a time
                     for each row then.  One that is out of range is NaT, and `bad_times` counts these
-        epoch       the time of second 0, as "2000-01-01", a datetime, numpy.datetime64 or pandas.Timestamp; needed with `time`
+        epoch       the time of second 0, as "2000-01-01", a datetime, numpy.datetime64 or pandas.Timestamp, or `TAI`, `GPS`, `J2000`
+                    or `UNIX`; needed with `time`
         encoding    of `str` fields: they are text in this encoding, and `bytes` without it
         errors      what becomes of octets that aren't in the encoding, as `bytes.decode` has it
+        arrays      for columns of `str` of what they are arrays: a type of numpy, as ">u2", or `uint12` and `int12` of so many bits,
+                    one behind another.  The column is a two-dimensional array then; without numpy a list of tuples
+        rest        the name of a column for the octets behind the last field, as many as each packet has
         blocks      how many rows a table has: tables come one by one then, two in memory.  The last has all `short_packets`
 
         The other words are those of `packets`, but the program writes `checkpoint`.  Raises DefinitionError, ColumnError, and
         UnicodeDecodeError, which names column and row, where a text isn't in the encoding.
         """
-        packets = number("apid", apid, APPLICATIONS), numbers("channel", channel, CHANNELS)
+        chosen = number("apid", apid, APPLICATIONS), numbers("channel", channel, CHANNELS)
         step = step_words(checkpoint, resume, stop_after)
-        table = Table(definition, *packets, encoding_of(encoding, errors), time_of(time, epoch), report, step)
+        if rest is not None and step:
+            raise ValueError("`rest` goes without `checkpoint`, `resume` and `stop_after`")
+        read = encoding_of(encoding, errors, arrays or ()), time_of(time, epoch), report, step
+        more = arrays or {}, None if rest is None else Rests(rest, *chosen)
+        table = Table(definition, chosen[0], chosen[1], *read, *more)
         rows = None if blocks is None else number("blocks", blocks, RECORDS)
         tables = read_tables(table, self.source, self.settings, rows, progress)
+        return next(tables) if rows is None else tables
+
+    def tables(
+        self,
+        definitions: Mapping[int, Name],
+        *,
+        channel: Numbers = None,
+        time: str | Sequence[str] | None = None,
+        epoch: Epoch | None = None,
+        encoding: str | None = None,
+        errors: str = "strict",
+        progress: Progress = False,
+    ) -> dict[int, Fields]:
+        """The fields of several applications, by their numbers: a table for each definition.  A stream is read once.
+
+        The other words are those of `fields`, for all tables.  Raises what `fields` does.
+        """
+        wanted = {number("apid", apid, APPLICATIONS): definition for apid, definition in definitions.items()}
+        how: dict[str, Any] = {"channel": channel, "time": time, "epoch": epoch, "encoding": encoding, "errors": errors}
+
+        def reader(apid: int) -> Read:
+            """Reads the table of an application.  The first one shows how far it is."""
+            shown = progress if apid == next(iter(wanted)) else False
+
+            def read(given: IO[bytes] | None) -> Fields:
+                recording = self if given is None else Recording(given, self.settings)
+                table: Fields = recording.fields(wanted[apid], apid, progress=shown, **how)
+                return table
+
+            return read
+
+        return dict(zip(wanted, side_by_side(self.source, [reader(it) for it in wanted])))
+
+    @overload
+    def skipped(self, *, blocks: None = None, progress: Progress = False) -> Fields: ...
+
+    @overload
+    def skipped(self, *, blocks: Number, progress: Progress = False) -> Iterator[Fields]: ...
+
+    def skipped(self, *, blocks: Number | None = None, progress: Progress = False) -> Fields | Iterator[Fields]:
+        """The octets of each record `before` and `after` its frame, as a table with a row for each record, good or bad.
+
+        blocks  how many rows a table has: tables come one by one then, in constant memory
+
+        Octets behind the last whole record are left out.  Raises SettingsError, OSError, and what reading a stream raises.
+        """
+        rows = None if blocks is None else number("blocks", blocks, RECORDS)
+        tables = skipped(self.source, self.settings, rows, progress)
         return next(tables) if rows is None else tables
 
     def loss_map(self, title: str = "What was lost", *, progress: Progress = False) -> LossMap:

@@ -1,14 +1,16 @@
 """Times of rows: an epoch, and the seconds and their binary fraction behind it."""
 
-from collections.abc import Sequence
+from collections.abc import Iterable, Sequence
+from dataclasses import dataclass
 from datetime import UTC, date, datetime, timedelta
 from typing import Any, Protocol
 
+from .leap_seconds import NANOSECONDS, LeapSeconds, leap_seconds
 from .values import module
 
-NANOSECONDS = 10**9
 FIRST, LAST = -(2**63) + 1, 2**63 - 1  # nanoseconds behind 1970 that a datetime64[ns] may have
 NONE = -(2**63)  # of NaT
+SCALES = {"TAI": "1958-01-01", "GPS": "1980-01-06T00:00:19", "J2000": "2000-01-01T11:59:27.816"}  # second 0 in TAI
 
 
 class Datetime64(Protocol):
@@ -20,21 +22,56 @@ class Datetime64(Protocol):
 Epoch = str | date | datetime | Datetime64
 
 
+@dataclass(frozen=True)
+class Clock:
+    """The nanoseconds from 1970 to second 0.  With leap seconds both that and all times are in TAI, else in UTC."""
+
+    begin: int
+    leaps: LeapSeconds | None = None
+
+    def utc(self, passed: int) -> int:
+        """The nanoseconds from 1970 in UTC, so many nanoseconds behind second 0."""
+        return self.begin + passed if self.leaps is None else self.leaps.utc(self.begin + passed)
+
+
+def clock_of(epoch: Epoch) -> Clock:
+    """How times behind an epoch are read.  `TAI`, `GPS` and `J2000` count leap seconds, `UNIX` and the time of second 0 don't.
+
+    Raises what `nanoseconds` does, and LeapSecondsError.
+    """
+    if isinstance(epoch, str) and epoch.upper() in SCALES:
+        return Clock(nanoseconds(SCALES[epoch.upper()]), leap_seconds())
+    return Clock(0 if isinstance(epoch, str) and epoch.upper() == "UNIX" else nanoseconds(epoch))
+
+
+def times_of(passed: Iterable[int | None], clock: Clock) -> tuple[Any, int]:
+    """The time so many nanoseconds behind second 0, for each, and how many are none or out of range, as `times` gives both."""
+    found, numpy = [None if it is None else clock.utc(it) for it in passed], module("numpy")
+    if clock.leaps is not None:
+        clock.leaps.warn_of_late(max((it for it in found if it is not None), default=0))
+    if numpy is None:
+        dates = [None if it is None else time_at(it // 1000) for it in found]
+        return dates, dates.count(None)
+    kept = numpy.array([it if it is not None and FIRST <= it <= LAST else NONE for it in found], "int64")
+    return kept.view("datetime64[ns]"), int((kept == NONE).sum())
+
+
 def times(seconds: Any, fractions: Any, bits: int, epoch: Epoch) -> tuple[Any, int]:
     """The time of each row, and how many are out of range.  A fraction has so many bits; without fractions there are none.
 
     An array of `datetime64[ns]`, rounded down, with NaT where a time is out of range; without numpy a list of datetime, rounded
-    down to microseconds, with None there.  Leap seconds are not known.
+    down to microseconds, with None there.
     """
-    begin, numpy = nanoseconds(epoch), module("numpy")
+    clock, numpy = clock_of(epoch), module("numpy")
     if numpy is None:
-        found = list_of_times(seconds, fractions or [0] * len(seconds), bits, begin)
-        return found, found.count(None)
-    return array_of_times(numpy, seconds.astype("uint64"), fractions, bits, begin)
-
-
-def list_of_times(seconds: Sequence[int], fractions: Sequence[int], bits: int, begin: int) -> list[datetime | None]:
-    return [time_at(begin // 1000 + second * 10**6 + (fraction * 10**6 >> bits)) for second, fraction in zip(seconds, fractions)]
+        pairs = zip(seconds, fractions or [0] * len(seconds))
+        return times_of((second * NANOSECONDS + (fraction * NANOSECONDS >> bits) for second, fraction in pairs), clock)
+    found, bad = array_of_times(numpy, seconds.astype("uint64"), fractions, bits, clock.begin)
+    if clock.leaps is not None:
+        counted, none = found.view("int64"), numpy.isnat(found)
+        counted[~none] = clock.leaps.utc_of_array(numpy, counted[~none])
+        clock.leaps.warn_of_late(int(counted.max(initial=0)))
+    return found, bad
 
 
 def time_at(microseconds: int) -> datetime | None:

@@ -4,7 +4,7 @@ import codecs
 import importlib
 import importlib.util
 import struct
-from collections.abc import Sequence
+from collections.abc import Iterable, Sequence
 from dataclasses import dataclass
 from itertools import accumulate
 from typing import Any
@@ -25,13 +25,19 @@ def module(name: str) -> Any:
 
 @dataclass(frozen=True)
 class Encoding:
-    """How texts are decoded: an encoding, and what is done where octets aren't in it, as `bytes.decode` has both."""
+    """How texts are decoded: an encoding, and what is done where octets aren't in it, as `bytes.decode` has both.
+
+    `octets` are columns that are no texts.
+    """
 
     name: str
     errors: str
+    octets: frozenset[str] = frozenset()
 
-    def texts(self, values: Sequence[bytes], column: str, first: int) -> list[str]:
+    def texts(self, values: Sequence[bytes], column: str, first: int) -> Sequence[Any]:
         """The texts of a column from a row on.  Raises UnicodeDecodeError that names column and row."""
+        if column in self.octets:
+            return values
         found: list[str] = []
         try:
             for value in values:
@@ -42,9 +48,9 @@ class Encoding:
         return found
 
 
-def encoding_of(name: str | None, errors: str) -> Encoding | None:
+def encoding_of(name: str | None, errors: str, octets: Iterable[str] = ()) -> Encoding | None:
     """How texts are decoded; None where they stay octets.  Raises LookupError where there is no such encoding."""
-    return None if name is None else Encoding(codecs.lookup(name).name, errors)
+    return None if name is None else Encoding(codecs.lookup(name).name, errors, frozenset(octets))
 
 
 @dataclass(frozen=True)

@@ -1,0 +1,197 @@
+"""What raw values mean: labels, calibrations and times, as arrays and as lists."""
+
+import math
+import os
+import struct
+import unittest
+from datetime import datetime
+from pathlib import Path
+from unittest import mock
+
+from support import TestCase, needs, tmx
+
+from test_values import rows_of
+from tmx import values
+from tmx.leap_seconds import SYSTEM
+
+PLACES = [f"tmx.{it}.module" for it in ("values", "fields", "times", "arrays", "decoding", "xtce")]
+# Rows of the table of the IERS, in seconds from 1900: TAI is 10, 19, 36 and 37 seconds ahead from 1972, 1980, July 2015 and 2017 on.
+TABLE = "#@\t3991593600\n2272060800\t10\t# 1 Jan 1972\n2524521600\t19\n3644697600\t36\n3692217600\t37\n"
+NEW_YEAR = datetime(2017, 1, 1)
+POINTS = ((10, 1.0), (20, 3.0), (40, -1.0))
+
+
+class WithModules(TestCase):
+    def have(self, **modules) -> None:
+        """Has other modules stand for these, for the rest of the test; None is one that isn't there."""
+        there = values.module
+        for place in PLACES:
+            self.enterContext(mock.patch(place, lambda it: modules[it] if it in modules else there(it)))
+
+    def table(self, text: str = TABLE) -> None:
+        """Has this be the table of leap seconds."""
+        Path("leap-seconds.list").write_text(text)
+        self.enterContext(mock.patch.dict(os.environ, TMX_LEAP_SECONDS=str(self.folder / "leap-seconds.list")))
+
+
+def column(payloads: list[bytes], kind: str, **how) -> tmx.Fields:
+    """The table of one column A, decoded."""
+    return rows_of(payloads, f"A,{kind},{8 * len(payloads[0])}\n").decoded(**{key: {"A": it} for key, it in how.items()})
+
+
+def octets(numbers) -> list[bytes]:
+    return [it.to_bytes(1, "big") for it in numbers]
+
+
+def dates(times) -> list:
+    """Times to microseconds."""
+    return times.astype("datetime64[us]").tolist() if hasattr(times, "astype") else times
+
+
+class Columns:
+    """What is tried of both kinds of columns."""
+
+    def test_labels(self) -> None:
+        table = column(octets([0, 1, 2, 5, 9, 10, 255]), "uint", labels={1: "ON", range(5, 10): "SAFE", 0: "OFF", 255: "ON"})
+        self.assertEqual([it if isinstance(it, str) else None for it in table["A"]], ["OFF", "ON", None, "SAFE", "SAFE", None, "ON"])
+        self.assertEqual((list(table)[4:], list(table["A_raw"])), (["A", "A_raw"], [0, 1, 2, 5, 9, 10, 255]))
+        wide = column([b"\xff" * 8, b"\xff" * 7 + b"\xfe"], "uint", labels={2**64 - 1: "ALL"})
+        self.assertEqual([it if isinstance(it, str) else None for it in wide["A"]], ["ALL", None])
+        signed = column([b"\xff", b"\x7f"], "int", labels={-1: "LESS", 127: "MOST"})
+        self.assertEqual(list(signed["A"]), ["LESS", "MOST"])
+
+    def test_polynomials(self) -> None:
+        """3 - 2 x + x^2 / 2, of x = 0, 1, 4 and 200."""
+        for curve in ([3, -2, 0.5], tmx.Polynomial((3, -2, 0.5))):
+            self.assertEqual(list(column(octets([0, 1, 4, 200]), "uint", curves=curve)["A"]), [3.0, 1.5, 3.0, 19603.0])
+        self.assertEqual(list(column([b"\xf0"], "int", curves=[0, 2])["A"]), [-32.0])
+        self.assertEqual(list(column([struct.pack(">f", 0.25)], "float", curves=[1, 2])["A"]), [1.5])
+        self.assertEqual(list(column(octets([7]), "uint", curves=[])["A"]), [0.0])
+
+    def test_splines(self) -> None:
+        def found(order: int, extrapolate: bool) -> list[float | None]:
+            curve = tmx.Spline(POINTS[::-1], order, extrapolate)
+            return [None if math.isnan(it) else it for it in column(octets([0, 10, 15, 20, 35, 40, 50]), "uint", curves=curve)["A"]]
+
+        self.assertEqual(found(1, False), [None, 1.0, 2.0, 3.0, 0.0, -1.0, None])
+        self.assertEqual(found(1, True), [-1.0, 1.0, 2.0, 3.0, 0.0, -1.0, -3.0])
+        self.assertEqual(found(0, False), [None, 1.0, 1.0, 3.0, 3.0, -1.0, None])
+        self.assertEqual(found(0, True), [1.0, 1.0, 1.0, 3.0, 3.0, -1.0, -1.0])
+        for points, order in (((), 1), (((1, 2), (1, 3)), 1), (POINTS, 2)):
+            self.raises(ValueError, None, tmx.Spline, points, order)
+
+    def test_times_without_leap_seconds(self) -> None:
+        """Noon of January 1, 2000 is 15340.5 days behind 1958, and 946728000 seconds behind 1970."""
+        day, noon = (15340).to_bytes(3, "big"), (43_200_000).to_bytes(4, "big")
+        at = datetime(2000, 1, 1, 12)
+        for form, epoch, code, below in (
+            ("cds6", None, day[1:] + noon, 0),
+            ("cds6", None, day[1:] + (43_200_789).to_bytes(4, "big"), 789_000),
+            ("cds8", None, day[1:] + noon + b"\x01\xf4", 500),
+            ("cds11", None, day + noon + (123_456_789).to_bytes(4, "big"), 123),
+            ("cds", None, b"\x41" + day[1:] + noon + b"\x01\xf4", 500),
+            (">f8", None, struct.pack(">d", 946728000.25), 250_000),
+            ("<f8", None, struct.pack("<d", 946728000.25), 250_000),
+            ("cuc4.2", "UNIX", (946728000).to_bytes(4, "big") + b"\x80\x00", 500_000),
+            ("cuc", "1958-01-01", b"\x1d" + (15340 * 86400 + 43200).to_bytes(4, "big") + b"\x40", 250_000),
+            ("cuc5.10", "1970-01-01", (946728000).to_bytes(5, "big") + b"\x20" + bytes(9), 125_000),
+        ):
+            table = column([code], "str", times=tmx.TimeCode(form, epoch))
+            self.assertEqual(dates(table["A"]), [at.replace(microsecond=below)], form)
+        for seconds, raw in ((1, 946728000), ("0.001", 946728000_000), (2, 473364000)):
+            table = column([raw.to_bytes(8, "big")], "uint", times=tmx.Ticks("UNIX", seconds))
+            self.assertEqual(dates(table["A"]), [at])
+        table = column([struct.pack(">d", 43200.5)], "float", times=tmx.Ticks("2000-01-01", 1, "-0.25"))
+        self.assertEqual(dates(table["A"]), [at.replace(microsecond=250_000)])
+
+    def test_octets_that_are_no_time(self) -> None:
+        codes = [b"\x41" + bytes(8), b"\x40" + bytes(8), b"\x41" + bytes(2) + (86_401_000).to_bytes(4, "big") + bytes(2)]
+        table = column(codes, "str", times=tmx.TimeCode("cds"))
+        self.assertEqual((dates(table["A"]), table.bad_times), ([datetime(1958, 1, 1), None, None], 2))
+        table = column([struct.pack(">d", it) for it in (math.nan, math.inf, 0)], "float", times=tmx.Ticks("UNIX"))
+        self.assertEqual((dates(table["A"]), table.bad_times), ([None, None, datetime(1970, 1, 1)], 2))
+
+    def test_leap_seconds(self) -> None:
+        """GPS had its second 1167264018, and TAI from 1958 its second 21550 * 86400 + 37, where 2017 began."""
+        self.table()
+        gps, tai = 1167264018, 21550 * 86400 + 37
+        for scale, second in (("GPS", gps), ("TAI", tai)):
+            raw = [it.to_bytes(4, "big") for it in (0, second - 2, second - 1, second, second + 1)]
+            found = dates(column(raw, "uint", times=tmx.Ticks(scale))["A"])[1:]
+            self.assertEqual([(it - NEW_YEAR).total_seconds() for it in found], [-1, 0, 0, 1])  # the leap second is told as the next
+        self.assertEqual(dates(column([bytes(4)], "uint", times=tmx.Ticks("GPS"))["A"]), [datetime(1980, 1, 6)])
+        j2000 = column([bytes(4), (17 * 365 + 5).to_bytes(4, "big")], "uint", times=tmx.Ticks("J2000", 86400))["A"]
+        self.assertEqual(dates(j2000)[1], datetime(2017, 1, 1, 11, 58, 50, 816000))
+        with self.assertWarnsRegex(tmx.TmxWarning, "^leap seconds are known until 2026-06-28, by .*leap-seconds.list: "):
+            column([b"\xff" * 4], "uint", times=tmx.Ticks("GPS"))
+        for epoch in ("gps", "GPS"):
+            rows = rows_of([gps.to_bytes(4, "big") + b"\x80\0"], "S,uint,32\nF,uint,16\n", time=("S", "F"), epoch=epoch)
+            self.assertEqual(dates(rows.time), [NEW_YEAR.replace(microsecond=500_000)])
+
+    def test_tables_of_leap_seconds(self) -> None:
+        self.table(TABLE.replace("3692217600\t37", "3692217600\t40"))
+        found = column([(1167264018 + 3).to_bytes(4, "big")], "uint", times=tmx.Ticks("GPS"))["A"]
+        self.assertEqual(dates(found), [NEW_YEAR])
+        for text in ("", "no table\n", "#@ 1\n2272060800\n"):
+            self.table(text)
+            tmx.leap_seconds.read_leap_seconds.cache_clear()
+            self.raises(tmx.LeapSecondsError, None, column, [bytes(4)], "uint", times=tmx.Ticks("TAI"))
+        os.environ["TMX_LEAP_SECONDS"] = "none"
+        error = self.raises(tmx.LeapSecondsError, None, column, [bytes(4)], "uint", times=tmx.Ticks("TAI"))
+        self.assertIn("none: No such file or directory; let TMX_LEAP_SECONDS name", str(error))
+
+    @unittest.skipUnless(os.path.exists(SYSTEM), f"{SYSTEM} is not there")
+    def test_the_table_of_the_system(self) -> None:
+        found = column([(1167264018).to_bytes(4, "big")], "uint", times=tmx.Ticks("GPS"))["A"]
+        self.assertEqual(dates(found), [NEW_YEAR])
+
+    def test_wrong_columns(self) -> None:
+        table = rows_of([b"ab"], "A,uint,8\nA_raw,uint,8\n")
+        self.raises(tmx.ColumnError, None, table.decoded, labels={"A": {0: "OFF"}})
+        self.raises(tmx.ColumnError, None, table.decoded, labels={"B": {0: "OFF"}})
+        table = rows_of([b"abcd"], "A,uint,8\nT,str,24\n")
+        self.raises(tmx.ColumnError, None, table.decoded, labels={"A": {0: "OFF"}}, curves={"A": [0, 1]})
+        self.raises(tmx.ColumnError, None, table.decoded, times={"A": tmx.TimeCode("cds8")})
+        self.raises(tmx.ColumnError, None, table.decoded, times={"T": tmx.Ticks("UNIX")})
+        self.raises(tmx.ColumnError, None, table.decoded, curves={"T": [0, 1]})
+        self.raises(tmx.ColumnError, None, table.decoded, labels={"T": {0: "OFF"}})
+        for form, epoch in (("cuc4.2", None), ("cds5", None), ("", "TAI")):
+            self.raises(ValueError, None, tmx.TimeCode, form, epoch)
+        self.raises(ValueError, None, tmx.Ticks, "TAI", "a second")
+
+
+class AsLists(Columns, WithModules):
+    def setUp(self) -> None:
+        super().setUp()
+        self.have(numpy=None, pandas=None)
+
+
+@needs("numpy")
+class AsArrays(Columns, WithModules):
+    def setUp(self) -> None:
+        super().setUp()
+        self.have(pandas=None)
+
+    def test_calibrators_beside_numpy(self) -> None:
+        import numpy
+
+        raw = numpy.arange(256)
+        table = column(octets(range(256)), "uint", curves=[1.5, -0.25, 0.125, 1e-3])
+        numpy.testing.assert_allclose(table["A"], numpy.polyval([1e-3, 0.125, -0.25, 1.5], raw), rtol=1e-14)
+        points = [(5, 1.0), (17, 30.5), (99, -4.25), (200, 7.0)]
+        table = column(octets(range(256)), "uint", curves=tmx.Spline(points))
+        wanted = numpy.interp(raw, *zip(*points), left=numpy.nan, right=numpy.nan)
+        numpy.testing.assert_allclose(table["A"], wanted, rtol=1e-14)
+
+
+@needs("numpy", "pandas")
+class AsFrames(Columns, WithModules):
+    def test_categories(self) -> None:
+        table = column(octets([1, 0, 2]), "uint", labels={0: "OFF", 1: "ON", 3: "NEVER"})
+        self.assertEqual(list(table.to_pandas()["A"].cat.categories), ["OFF", "ON", "NEVER"])
+        self.assertEqual(table.to_pandas()["A"].isna().tolist(), [False, False, True])
+        self.assertEqual(table.to_numpy()["A"].tolist()[:2], ["ON", "OFF"])
+
+
+if __name__ == "__main__":
+    unittest.main()

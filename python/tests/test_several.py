@@ -1,0 +1,76 @@
+"""Tables of several applications at once, beside those of one after another."""
+
+import io
+import os
+import threading
+import unittest
+import warnings
+from pathlib import Path
+
+from support import ATTITUDE, DEFINITION, HOUSEKEEPING, RECORDING, SETTINGS, TestCase, example, tmx
+
+TIMES = 30  # how often the example comes in a long recording
+BOTH = {101: ATTITUDE, 100: HOUSEKEEPING}
+
+
+def same(table: tmx.Fields, other: tmx.Fields) -> bool:
+    """Whether two tables have the same columns, values, times and short packets."""
+    columns = list(table) == list(other) and all(list(table[it]) == list(other[it]) for it in table)
+    times = [None if it.time is None else list(it.time) for it in (table, other)]
+    return columns and times[0] == times[1] and table.short_packets == other.short_packets
+
+
+class Several(TestCase):
+    def pipe(self) -> str:
+        """A pipe that the example comes through, thirty times."""
+        os.mkfifo("pipe")
+        threading.Thread(target=lambda: Path("pipe").write_bytes(RECORDING.read_bytes() * TIMES), daemon=True).start()
+        return "pipe"
+
+    def test_tables(self) -> None:
+        """Of a file, of a stream that goes back, and of a pipe."""
+        octets = RECORDING.read_bytes() * TIMES
+        (self.folder / "long.rec").write_bytes(octets)
+        for given in ("long.rec", io.BytesIO(octets), self.pipe()):
+            tables = tmx.Recording(given, SETTINGS).tables({**BOTH, 300: DEFINITION}, channel=3, encoding="ascii")
+            self.assertEqual(list(tables), [101, 100, 300])
+            for apid, definition in BOTH.items():
+                wanted = tmx.Recording("long.rec", SETTINGS).fields(definition, apid, channel=3, encoding="ascii")
+                self.assertTrue(same(tables[apid], wanted), (given, apid))
+        timed = {"time": "SECONDS", "epoch": "2000-01-01"}
+        self.assertTrue(same(example().tables(BOTH, **timed)[100], example().fields(HOUSEKEEPING, 100, **timed)))
+        self.assertEqual(example().tables({}), {})
+
+    def test_errors(self) -> None:
+        for recording in (example(), tmx.Recording(io.BytesIO(RECORDING.read_bytes()), SETTINGS)):
+            self.raises(tmx.FileError, "failed", recording.tables, {101: ATTITUDE, 100: "none.csv"})
+            self.raises(ValueError, None, recording.tables, {101: ATTITUDE, 2048: HOUSEKEEPING})
+        self.program('case "$*" in *"--apid 100"*) kill -KILL $$;; esac\nexec "$real" "$@"')
+        for recording in (example(), tmx.Recording(io.BytesIO(RECORDING.read_bytes() * 50), SETTINGS)):
+            self.raises(tmx.KilledError, "SIGKILL", recording.tables, BOTH)
+
+    def test_streams_that_fail(self) -> None:
+        class Failing(io.BytesIO):
+            def read1(self, most: int = -1) -> bytes:
+                raise OSError("no more")
+
+        before = len(os.listdir("/proc/self/fd"))
+        self.raises(OSError, None, tmx.Recording(Failing(), SETTINGS).tables, BOTH)
+        self.assertEqual(len(os.listdir("/proc/self/fd")), before)
+
+    def test_warnings(self) -> None:
+        for given in (RECORDING, io.BytesIO(RECORDING.read_bytes())):
+            with warnings.catch_warnings(record=True) as found:
+                warnings.simplefilter("always")
+                tmx.Recording(given, SETTINGS).tables({101: ATTITUDE, 7: HOUSEKEEPING})
+            self.assertEqual([(str(it.message), it.filename) for it in found], [("no packet of application 7", __file__)])
+
+    def test_progress(self) -> None:
+        for given in (RECORDING, io.BytesIO(RECORDING.read_bytes())):
+            told: list[int] = []
+            tmx.Recording(given, SETTINGS).tables(BOTH, progress=lambda done, octets: told.append(done))
+            self.assertEqual(told[-1], 76800)
+
+
+if __name__ == "__main__":
+    unittest.main()

@@ -1,0 +1,515 @@
+"""XTCE files: each construct and each refusal once, and random systems whose packets are made here."""
+
+import io
+import math
+import os
+import random
+import struct
+import time
+import unittest
+from datetime import datetime, timedelta
+from pathlib import Path
+
+from support import TestCase, command, needs, tmx
+
+from test_decoding import WithModules, dates
+
+SYSTEMS = int(os.environ.get("SYSTEMS", "30"))
+NEW = 'xmlns="http://www.omg.org/spec/XTCE/20180204"'  # of XTCE 1.2
+OLD = 'xmlns="http://www.omg.org/space/xtce"'  # of XTCE 1.1
+HEADER = (("VERSION", 3), ("TYPE", 1), ("SECONDARY", 1), ("APID", 11), ("FLAGS", 2), ("COUNT", 14), ("LENGTH", 16))
+APID, COUNT = 300, 5  # of the packets that are made here
+INTEGER = '<IntegerParameterType name="T"><IntegerDataEncoding sizeInBits="{}" {}>{}</IntegerDataEncoding></IntegerParameterType>'
+
+
+# Files.
+
+
+def integers(*parameters: tuple[str, int]) -> tuple[str, str]:
+    """The types and the parameters of unsigned integers."""
+    types = {bits: INTEGER.format(bits, "", "").replace('"T"', f'"u{bits}"') for _, bits in parameters}
+    return "".join(types.values()), "".join(f'<Parameter name="{name}" parameterTypeRef="u{bits}"/>' for name, bits in parameters)
+
+
+def entries(*names: str) -> str:
+    return "".join(f'<ParameterRefEntry parameterRef="{it}"/>' for it in names)
+
+
+HEADER_TYPES, HEADER_PARAMETERS = integers(*HEADER)
+OF_HEADER = entries(*(it for it, _ in HEADER))
+PACKET = f'<SequenceContainer name="PACKET" abstract="true"><EntryList>{OF_HEADER}</EntryList></SequenceContainer>'
+OF_300 = '<Comparison parameterRef="APID" value="300"/>'
+
+
+def container(name: str, inside: str, criteria: str = OF_300, base: str = "PACKET", more: str = "") -> str:
+    said = f'<BaseContainer containerRef="{base}"><RestrictionCriteria>{criteria}</RestrictionCriteria></BaseContainer>'
+    return f'<SequenceContainer name="{name}">{more}<EntryList>{inside}</EntryList>{said}</SequenceContainer>'
+
+
+def system(types: str, parameters: str, containers: str, inner: str = "", namespace: str = NEW, name: str = "Sat") -> str:
+    return (
+        f'<SpaceSystem name="{name}" {namespace}><TelemetryMetaData><ParameterTypeSet>{HEADER_TYPES}{types}</ParameterTypeSet>'
+        f"<ParameterSet>{HEADER_PARAMETERS}{parameters}</ParameterSet><ContainerSet>{PACKET}{containers}</ContainerSet>"
+        f"</TelemetryMetaData>{inner}</SpaceSystem>"
+    )
+
+
+def lower(parameters: str, types: str = "", containers: str = "") -> str:
+    """A system within another."""
+    return (
+        f'<SpaceSystem name="Low"><TelemetryMetaData><ParameterTypeSet>{types}</ParameterTypeSet>'
+        f"<ParameterSet>{parameters}</ParameterSet><ContainerSet>{containers}</ContainerSet></TelemetryMetaData></SpaceSystem>"
+    )
+
+
+def one(type_: str, entry: str = entries("A")) -> str:
+    """A system of one parameter A of the type T in the container C."""
+    return system(type_, '<Parameter name="A" parameterTypeRef="T"/>', container("C", entry))
+
+
+def written(text: str) -> tmx.xtce.System:
+    Path("system.xml").write_text(text, encoding="utf-8")
+    return tmx.xtce.read("system.xml")
+
+
+# Packets.
+
+
+def recording_of(payloads: list[bytes]) -> tmx.Recording:
+    """A recording of frames that have one packet each."""
+    frames = []
+    for number, payload in enumerate(payloads):
+        packet = struct.pack(">HHH", APID, 0xC000 | (COUNT + number) % 16384, len(payload) - 1) + payload
+        frames.append(struct.pack(">HBBH", 42 << 4, number % 256, number % 256, 0) + packet)
+    return tmx.Recording(io.BytesIO(b"".join(frames)), tmx.Settings(42, 12 + len(payloads[0]), False))
+
+
+def table(text: str, *payloads: bytes, container: str = "C", **how) -> tmx.Fields:
+    return written(text).fields(recording_of(list(payloads)), container, **how)
+
+
+def plain(column) -> list:
+    """The values of a column; None for what is none."""
+    found = dates(column) if str(getattr(column, "dtype", "")).startswith("datetime64") else list(column)
+    return [None if it is None or it != it else it.item() if hasattr(it, "item") else it for it in found]
+
+
+# Each construct once.  Expected values are worked out by hand.
+
+FLOAT = '<FloatParameterType name="T"><FloatDataEncoding sizeInBits="{}" {}/></FloatParameterType>'
+CALIBRATED = "<DefaultCalibrator>{}</DefaultCalibrator>"
+POLYNOMIAL = (
+    '<PolynomialCalibrator><Term coefficient="0.5" exponent="2"/><Term coefficient="-3" exponent="0"/></PolynomialCalibrator>'
+)
+SPLINE = '<SplineCalibrator {}><SplinePoint raw="2" calibrated="10"/><SplinePoint raw="4" calibrated="20"/></SplineCalibrator>'
+ENUMERATED = (
+    '<EnumeratedParameterType name="T"><IntegerDataEncoding/><EnumerationList><Enumeration value="1" label="ON"/>'
+    '<Enumeration value="0x10" maxValue="0x1F" label="SAFE"/></EnumerationList></EnumeratedParameterType>'
+)
+TEXT = (
+    '<StringParameterType name="T"><StringDataEncoding {}><SizeInBits><Fixed><FixedValue>32</FixedValue></Fixed>{}</SizeInBits>'
+    "</StringDataEncoding></StringParameterType>"
+)
+BINARY = (
+    '<BinaryParameterType name="T"><BinaryDataEncoding><SizeInBits><FixedValue>{}</FixedValue></SizeInBits></BinaryDataEncoding>'
+    "</BinaryParameterType>"
+)
+TIME = (
+    '<AbsoluteTimeParameterType name="T"><Encoding {}>{}</Encoding><ReferenceTime>{}</ReferenceTime></AbsoluteTimeParameterType>'
+)
+U32, F64 = '<IntegerDataEncoding sizeInBits="32"/>', '<FloatDataEncoding sizeInBits="64"/>'
+OF_2000 = "<Epoch>2000-01-01</Epoch>"
+SECONDS = (1167264018).to_bytes(4, "big")  # of GPS, where 2017 began
+
+VALUES = (
+    (INTEGER.format(16, "", ""), b"\xff\xfe", 65534),
+    (INTEGER.format(12, 'encoding="twosComplement"', ""), b"\xff\xef", -2),
+    (INTEGER.format(8, 'encoding="twosCompliment"', ""), b"\xfe\0", -2),
+    (INTEGER.format(8, 'byteOrder="leastSignificantByteFirst"', ""), b"\x07\0", 7),
+    (INTEGER.format(16, 'encoding="unsigned"', CALIBRATED.format(POLYNOMIAL)), b"\0\x0a", 47.0),
+    (INTEGER.format(8, "", CALIBRATED.format(SPLINE.format(""))), b"\x03\0", 15.0),
+    (INTEGER.format(8, "", CALIBRATED.format(SPLINE.format(""))), b"\x05\0", None),
+    (INTEGER.format(8, "", CALIBRATED.format(SPLINE.format('extrapolate="true"'))), b"\x05\0", 25.0),
+    (INTEGER.format(8, "", CALIBRATED.format(SPLINE.format('order="0"'))), b"\x03\0", 10.0),
+    (FLOAT.format(32, ""), struct.pack(">f", 1.25), 1.25),
+    (FLOAT.format(16, 'encoding="IEEE754"'), struct.pack(">e", -0.5), -0.5),
+    (FLOAT.format(64, 'encoding="IEEE754_1985"'), struct.pack(">d", 0.1), 0.1),
+    ('<FloatParameterType name="T"><IntegerDataEncoding/></FloatParameterType>', b"\x09\0", 9),
+    ('<BooleanParameterType name="T"><IntegerDataEncoding sizeInBits="1"/></BooleanParameterType>', b"\x80", True),
+    (ENUMERATED, b"\x01\0", "ON"),
+    (ENUMERATED, b"\x1f\0", "SAFE"),
+    (ENUMERATED, b"\x20\0", None),
+    (TEXT.format("", ""), b"ab\xc3\xa9", "abé"),
+    (TEXT.format('encoding="US-ASCII"', "<TerminationChar>00</TerminationChar>"), b"ab\0x", "ab"),
+    (TEXT.format('encoding="UTF-16BE"', ""), b"\0a\0b", "ab"),
+    (TEXT.format('encoding="US-ASCII"', ""), b"ab\xffd", "ab\N{REPLACEMENT CHARACTER}d"),
+    (BINARY.format(24), b"\0\xff\x80", b"\0\xff\x80"),
+    (TIME.format("", U32, "<Epoch>UNIX</Epoch>"), (946684800).to_bytes(4, "big"), datetime(2000, 1, 1)),
+    (TIME.format("", U32, "<Epoch>GPS</Epoch>"), SECONDS, datetime(2017, 1, 1)),
+    (TIME.format('scale="0.5" offset="86400"', U32, OF_2000), b"\0\0\0\x03", datetime(2000, 1, 2, 0, 0, 1, 500000)),
+    (TIME.format('units="days"', F64, "<Epoch>2000-01-01T12:00:00Z</Epoch>"), struct.pack(">d", 0.5), datetime(2000, 1, 2)),
+    (TIME.format('units="picoSeconds" scale="1000000"', U32, OF_2000), b"\0\0\0\x03", datetime(2000, 1, 1, 0, 0, 0, 3)),
+    (INTEGER.format(8, "", "").replace('name="T"', 'name="B"') + '<IntegerParameterType name="T" baseType="B"/>', b"\x05\0", 5),
+)
+
+LOCATED = (
+    '<ParameterRefEntry parameterRef="A"><LocationInContainerInBits {}><FixedValue>{}</FixedValue></LocationInContainerInBits>'
+    "</ParameterRefEntry>"
+)
+BYTE = INTEGER.format(8, "", "")
+ARRAY = '<ArrayParameterType name="T" arrayTypeRef="u8" {}>{}</ArrayParameterType>'
+ENDS = "<{0}><FixedValue>{{}}</FixedValue></{0}>"
+DIMENSION = f"<Dimension>{ENDS.format('StartingIndex')}{ENDS.format('EndingIndex')}</Dimension>"
+DIMENSIONS = f"<DimensionList>{DIMENSION * 2}</DimensionList>"
+U8 = '<IntegerParameterType name="u8"><IntegerDataEncoding/></IntegerParameterType>'
+REPEATED = (
+    '<ParameterRefEntry parameterRef="A"><RepeatEntry><Count><FixedValue>3</FixedValue></Count>'
+    "<Offset><FixedValue>8</FixedValue></Offset></RepeatEntry></ParameterRefEntry>"
+)
+MEMBERS = '<Member name="LOW" typeRef="u8"/><Member name="HIGH" typeRef="u8"/>'
+AGGREGATE = f'<AggregateParameterType name="T"><MemberList>{MEMBERS}</MemberList></AggregateParameterType>'
+ARRAY_ENTRY = f'<ArrayParameterRefEntry parameterRef="A">{DIMENSIONS.format(1, 1, 0, 1)}</ArrayParameterRefEntry>'
+
+PLACES = (
+    (one(BYTE, LOCATED.format("", 8)), {"A": 8 + 48}),
+    (one(BYTE, LOCATED.format('referenceLocation="previousEntry"', -16)), {"A": 32}),
+    (one(BYTE, LOCATED.format('referenceLocation="containerStart"', 64)), {"A": 64}),
+    (one(BYTE, REPEATED), {"A[0]": 48, "A[1]": 64, "A[2]": 80}),
+    (one(U8 + ARRAY.format("", DIMENSIONS.format(0, 1, 3, 4))), {"A[0][3]": 48, "A[0][4]": 56, "A[1][3]": 64, "A[1][4]": 72}),
+    (one(U8 + ARRAY.format('numberOfDimensions="2"', ""), ARRAY_ENTRY), {"A[1][0]": 48, "A[1][1]": 56}),
+    (one(U8 + AGGREGATE), {"A.LOW": 48, "A.HIGH": 56}),
+)
+
+# Each refusal once: the parameter or the container that it names, and why.
+
+DYNAMIC = "<DynamicValue><ParameterInstanceRef parameterRef='COUNT'/></DynamicValue>"
+NO_TYPE = '<StringParameterType name="T"/>'
+LITTLE = 'byteOrder="leastSignificantByteFirst"'
+REFUSED = (
+    (one(INTEGER.format(65, "", "")), "/Sat/A: an integer unsigned of 65 bits is not read"),
+    (one(INTEGER.format(8, 'encoding="signMagnitude"', "")), "/Sat/A: an integer signMagnitude of 8 bits is not read"),
+    (one(INTEGER.format(16, LITTLE, "")), "/Sat/A: the byte order leastSignificantByteFirst is not read"),
+    (one(INTEGER.format(16, "", "<ByteOrderList/>")), "/Sat/A: a ByteOrderList is not read"),
+    (one(INTEGER.format(8, 'bitOrder="leastSignificantBitFirst"', "")), "/Sat/A: the least significant bit comes first"),
+    (one(INTEGER.format(8, "", "<ErrorDetectCorrect/>")), "/Sat/A: ErrorDetectCorrect is not read"),
+    (one(INTEGER.format(8, "", "<ContextCalibratorList/>")), "/Sat/A: context calibrators are not read"),
+    (one(INTEGER.format(8, "", CALIBRATED.format("<MathOperationCalibrator/>"))), "/Sat/A: its calibrator is neither"),
+    (one(INTEGER.format(8, "", CALIBRATED.format(SPLINE.format('order="2"')))), "/Sat/A: a spline is of order 0 or 1, and not 2"),
+    (one(INTEGER.format(8, "", CALIBRATED.format(POLYNOMIAL.replace('"2"', '"-2"')))), "/Sat/A: a term of exponent -2 is out"),
+    (one(INTEGER.format("many", "", "")), "/Sat/A: 'many' is no whole number"),
+    (one(FLOAT.format(32, 'encoding="MILSTD_1750A"')), "/Sat/A: a float MILSTD_1750A of 32 bits is not read"),
+    (one(FLOAT.format(48, "")), "/Sat/A: a float IEEE754_1985 of 48 bits is not read"),
+    (one(NO_TYPE), "/Sat/A: its type has no data encoding"),
+    (one('<RelativeTimeParameterType name="T"/>'), "/Sat/A: RelativeTimeParameterType is not read"),
+    (one(ENUMERATED.replace("<IntegerDataEncoding/>", "<FloatDataEncoding/>")), "/Sat/A: FloatDataEncoding of a EnumeratedPar"),
+    (one(TEXT.format("", "").replace("Fixed>", "Dynamic>")), "/Sat/A: the size is not fixed"),
+    (one(TEXT.format("", "<LeadingSize/>")), "/Sat/A: a text with a leading size is not read"),
+    (one(TEXT.format('encoding="EBCDIC-7"', "")), "/Sat/A: the encoding EBCDIC-7 is not known"),
+    (one(TEXT.format('encoding="UTF-16"', "<TerminationChar>00</TerminationChar>")), "/Sat/A: the end '00' of a text in utf-16"),
+    (one(BINARY.format(12)), "/Sat/A: 12 bits are no whole octets"),
+    (one(BINARY.format("8").replace("<FixedValue>8</FixedValue>", DYNAMIC)), "/Sat/A: the size is not fixed"),
+    (one(BINARY.format(8).replace("<Size", "<FromBinaryTransformAlgorithm/><Size")), "/Sat/A: algorithms are not run"),
+    (one(TIME.format("", U32, '<OffsetFrom parameterRef="COUNT"/>')), "/Sat/A: its time has no reference epoch"),
+    (one(TIME.format("", U32, "<Epoch>MJD</Epoch>")), "/Sat/A: the scale, the offset or the epoch 'MJD'"),
+    (one(TIME.format('units="months"', U32, "<Epoch>TAI</Epoch>")), "/Sat/A: times in months are not read"),
+    (one(TIME.format("", "<BinaryDataEncoding/>", "<Epoch>TAI</Epoch>")), "/Sat/A: BinaryDataEncoding of a AbsoluteTimeParameterType"),
+    (one(U8 + ARRAY.format("", "")), "/Sat/A: an array has dimensions, and at most 1000 values"),
+    (one(U8 + ARRAY.format("", DIMENSIONS.format(0, 99, 0, 99))), "/Sat/A: an array has dimensions, and at most 1000 values"),
+    (one(ARRAY.format("", DIMENSIONS.format(0, 0, 0, 0)).replace("u8", "T")), "/Sat/A: the type /Sat/T contains itself"),
+    (one('<IntegerParameterType name="T" baseType="T"/>'), "/Sat/A: the type /Sat/T extends itself"),
+    (one(BYTE, LOCATED.format("", 0).replace("<FixedValue>0</FixedValue>", DYNAMIC)), "/Sat/A: the place is not fixed"),
+    (one(BYTE, LOCATED.format('referenceLocation="nextEntry"', 0)), "/Sat/A: a place from nextEntry is not read"),
+    (one(BYTE, LOCATED.format("", -49)), "/Sat/A: it begins before the packet"),
+    (one(BYTE, REPEATED.replace("<FixedValue>3</FixedValue>", DYNAMIC)), "/Sat/A: the number of repetitions is not fixed"),
+    (one(BYTE, entries("A").replace("/>", "><IncludeCondition/></ParameterRefEntry>")), "/Sat/C: /Sat/A is there only on a condition"),
+    (one(BYTE, "<IndirectParameterRefEntry/>"), "/Sat/C: IndirectParameterRefEntry is not read"),
+    (one(BYTE, entries("A") * 2), "/Sat/C: the parameter /Sat/A stands in it twice"),
+    (one(BYTE, entries("B")), "/Sat/C: there is no parameter 'B'"),
+    (one("", entries("A")), "/Sat/A: there is no type 'T'"),
+    (system("", "", container("C", "", base="D")), "/Sat/C: there is no container 'D'"),
+    (system("", "", container("C", "", base="C")), "/Sat/C: it contains itself"),
+    (system("", "", container("C", "", "<BooleanExpression/>")), "/Sat/C: BooleanExpression is not read"),
+    (system("", "", container("C", "", OF_300.replace("/>", ' instance="-1"/>'))), "/Sat/C: the instance -1 of APID is not read"),
+    (
+        system("", "", container("D", "") + container("C", '<ContainerRefEntry containerRef="D"/>')),
+        "/Sat/D: it is included, and has RestrictionCriteria",
+    ),
+)
+COMPARED = (
+    ('<Comparison parameterRef="A" value="1"/>', "/Sat/A is compared, and has no place in it"),
+    (OF_300.replace("300", "2048"), "'2048' is no application"),
+    (f"<ComparisonList>{OF_300}{OF_300.replace('300', '301')}</ComparisonList>", r"the applications \[300, 301\] at once"),
+    ('<Comparison parameterRef="COUNT" value="many"/>', "COUNT == 'many' is not understood"),
+    ('<Comparison parameterRef="COUNT" comparisonOperator="=" value="1"/>', "the comparison '=' is not known"),
+)
+
+
+class System(TestCase):
+    def test_values(self) -> None:
+        for type_, payload, wanted in VALUES:
+            with self.subTest(type=type_):
+                found = table(one(type_), payload)
+                self.assertEqual(plain(found["A"]), [wanted])
+                self.assertEqual(plain(found["COUNT"]), [COUNT])
+
+    def test_places(self) -> None:
+        for text, wanted in PLACES:
+            fields = written(text).columns("C")
+            self.assertEqual([it.name for it in fields[:7]], [it for it, _ in HEADER])
+            self.assertEqual({it.name: it.offset for it in fields[7:]}, wanted)
+
+    def test_refusals(self) -> None:
+        """The rest of the file serves: the container PACKET is read."""
+        for text, said in REFUSED:
+            with self.subTest(said=said):
+                found = written(text)
+                error = self.raises(tmx.XtceError, None, found.definition, "C")
+                self.assertEqual((str(error)[: len(said)], error.path), (said, said.partition(":")[0]))
+                self.assertIn("/Sat/C", found.refusals())
+                self.assertEqual(found.definition("PACKET").splitlines()[4], "APID,uint,11,5")
+
+    def test_refused_comparisons(self) -> None:
+        for criteria, said in COMPARED:
+            text = system(BYTE, '<Parameter name="A" parameterTypeRef="T"/>', container("C", "", criteria))
+            with self.assertRaisesRegex(tmx.XtceError, f"^/Sat/C: .*{said}"):
+                table(text, b"ab")
+        with self.assertRaisesRegex(tmx.XtceError, "^/Sat/PACKET: its packets have no application"):
+            table(one(BYTE), b"ab", container="PACKET")
+        self.assertEqual(plain(table(one(BYTE), b"ab", container="PACKET", apid=300)["LENGTH"]), [1])
+
+    def test_containers(self) -> None:
+        """Two levels of bases, each with entries and a restriction, and a container within another."""
+        types, parameters = integers(("A", 4), ("B", 12), ("C", 8))
+        size = "<BinaryEncoding><SizeInBits><FixedValue>16</FixedValue></SizeInBits></BinaryEncoding>"
+        part = f'<SequenceContainer name="PART">{size}<EntryList>{entries("C")}</EntryList></SequenceContainer>'
+        middle = container("MIDDLE", entries("A"))
+        inner = f'{entries("/Sat/B")}<ContainerRefEntry containerRef="../PART"/>' + LOCATED.format("", 0).replace('"A"', '"LATE"')
+        last = container("LAST", inner, '<Comparison parameterRef="A" value="7"/>', "MIDDLE")
+        low = lower(f'<Parameter name="LATE" parameterTypeRef="u8"/>', U8, last)
+        for namespace in (NEW, OLD, ""):
+            text = system(types, parameters, part + middle, low, namespace)
+            found = table(text, b"\x7a\xbc\x0d\x0e\x0f", b"\x6a\xbc\x0d\x0e\x0f", b"\x70\x01\x02\x03\x04", container="LAST")
+            self.assertEqual([plain(found[it]) for it in ("A", "B", "C", "LATE")], [[7, 7], [0xABC, 1], [13, 2], [15, 4]])
+            self.assertEqual(plain(found["tm_record"]), [0, 2])
+        self.assertEqual(written(text).containers, ["/Sat/PACKET", "/Sat/PART", "/Sat/MIDDLE", "/Sat/Low/LAST"])
+
+    def test_comparisons(self) -> None:
+        boolean = '<BooleanParameterType name="B"><IntegerDataEncoding/></BooleanParameterType>'
+        curve = INTEGER.format(8, "", CALIBRATED.format(POLYNOMIAL)).replace('name="T"', 'name="P"')
+        parameters = "".join(f'<Parameter name="{it}" parameterTypeRef="{it}"/>' for it in "TBP")
+        payloads = [bytes(it) for it in ((1, 0, 2), (16, 1, 4), (31, 9, 2), (99, 0, 0))]
+        for said, wanted in (
+            ('T" value="SAFE"', [1, 2]),
+            ('T" comparisonOperator="!=" value="ON"', [1, 2, 3]),
+            ('T" useCalibratedValue="false" value="0x10"', [1]),
+            ('T" useCalibratedValue="false" comparisonOperator="&gt;=" value="31"', [2, 3]),
+            ('B" value="true"', [1, 2]),
+            ('B" comparisonOperator="!=" value="True"', [0, 3]),
+            ('P" value="-1"', [0, 2]),
+            ('P" comparisonOperator="&lt;" value="-1.0"', [3]),
+            ('P" useCalibratedValue="false" comparisonOperator="&lt;=" value="2"', [0, 2, 3]),
+            ('P" useCalibratedValue="0" comparisonOperator="&gt;" value="2"', [1]),
+        ):
+            criteria = f'<ComparisonList>{OF_300}<Comparison parameterRef="{said}/></ComparisonList>'
+            text = system(ENUMERATED + boolean + curve, parameters, container("C", entries(*"TBP"), criteria))
+            self.assertEqual(plain(table(text, *payloads)["tm_record"]), wanted, said)
+            blocks = written(text).blocks(recording_of(payloads), "C", 3)
+            self.assertEqual([row for it in blocks for row in plain(it["tm_record"])], wanted, said)
+
+    def test_an_application_by_its_label(self) -> None:
+        label = ENUMERATED.replace('"T"', '"u11"').replace("Encoding/>", 'Encoding sizeInBits="11"/>').replace("1F", "300")
+        label = label.replace('value="1" label="ON"', 'value="300" label="HK"')
+        text = one(BYTE).replace('value="300"', 'value="HK"')
+        text = text.replace(integers(("APID", 11))[0], label)
+        self.assertEqual(written(text).apid("C"), 300)
+
+    def test_names(self) -> None:
+        """A parameter of another system, of the same name."""
+        other = '<Parameter name="A" parameterTypeRef="T"/>'
+        text = one(BYTE, entries("A", "Low/A")).replace("</SpaceSystem>", f"{lower(other)}</SpaceSystem>")
+        found = table(text, b"\x01\x02")
+        self.assertEqual((plain(found["/Sat/A"]), plain(found["/Sat/Low/A"])), ([1], [2]))
+        self.raises(tmx.XtceError, None, written(text).path, "D")
+        twice = text.replace(lower(other), lower(other, "", PACKET))
+        error = self.raises(tmx.XtceError, None, written(twice).path, "PACKET")
+        self.assertEqual(error.reason, "this may be /Sat/PACKET or /Sat/Low/PACKET")
+
+    def test_the_time_of_each_row(self) -> None:
+        found = table(one(TIME.format("", U32, "<Epoch>UNIX</Epoch>")), bytes(4), b"\0\0\0\x01")
+        self.assertEqual(dates(found.time), [datetime(1970, 1, 1), datetime(1970, 1, 1, 0, 0, 1)])
+        self.assertEqual(plain(found["A_raw"]), [0, 1])
+
+    def test_the_command(self) -> None:
+        Path("system.xml").write_text(one(BYTE, entries("A", "B") + REPEATED).replace('value="300"', 'value="9"'))
+        said = "tmx definition: /Sat/C: there is no parameter 'B'\n"
+        self.assertEqual(command("definition", "system.xml", "C", out="out"), (1, said))
+        self.assertEqual(command("definition", "system.xml", out="out"), (0, ""))
+        said = ["/Sat/PACKET: no application, 7 fields", "/Sat/C: refused: /Sat/C: there is no parameter 'B'"]
+        self.assertEqual(Path("out").read_text().splitlines(), said)
+        written(one(BYTE))
+        self.assertEqual(command("definition", "system.xml", "C", out="d.csv"), (0, ""))
+        head = "name,data_type,bit_length,bit_offset\nVERSION,uint,3,0\nTYPE,uint,1,3\nSECONDARY,uint,1,4\nAPID,uint,11,5\n"
+        self.assertEqual(Path("d.csv").read_text(), f"{head}FLAGS,uint,2,16\nCOUNT,uint,14,18\nLENGTH,uint,16,32\nA,uint,8,48\n")
+        self.assertEqual(plain(recording_of([b"ab"]).fields("d.csv", APID)["A"]), [97])
+
+
+class Files(TestCase):
+    def refused(self, text: str, said: str) -> None:
+        Path("system.xml").write_text(text)
+        with self.assertRaisesRegex(tmx.XtceError, f"^system.xml: {said}"):
+            tmx.xtce.read("system.xml")
+
+    def test_files_that_are_refused(self) -> None:
+        whole = one(BYTE)
+        self.refused("", "it is no XML")
+        self.refused(whole[:-9], "it is no XML")
+        self.refused(whole.replace("Sat", "&there;"), "it is no XML")
+        self.refused("<Other/>", "its element is Other, and not SpaceSystem")
+        include = '<xi:include xmlns:xi="http://www.w3.org/2001/XInclude" href="x.xml"/>'
+        self.refused(whole.replace("</Space", f"{include}</Space"), "it includes other files")
+        self.refused(f'<!DOCTYPE SpaceSystem SYSTEM "system.dtd">{whole}', "it has a DOCTYPE")
+        doctype = '<!DOCTYPE s [<!ENTITY e SYSTEM "/etc/passwd">]>'
+        self.refused(f'<?xml version="1.0"?>\n<!-- a -->\n{doctype}{whole}', "it has a DOCTYPE")
+        self.raises(FileNotFoundError, None, tmx.xtce.read, "none.xml")
+
+    def test_entities_that_grow(self) -> None:
+        grown = "".join(f'<!ENTITY e{it + 1} "{f"&e{it};" * 10}">' for it in range(12))
+        begin = time.monotonic()
+        self.refused(f'<!DOCTYPE s [<!ENTITY e0 "0123456789">{grown}]><SpaceSystem name="&e12;"/>', "it has a DOCTYPE")
+        self.assertLess(time.monotonic() - begin, 5)
+
+
+# Random systems.
+
+
+class Made:
+    """A random parameter: its type as XTCE has it, its bits, and random values as they are sent and as they are meant."""
+
+    def __init__(self, chance: random.Random, name: str) -> None:
+        self.chance, self.name = chance, name
+        self.bits = chance.choice((1, 3, 8, 12, 16, 31, 32, 33, 63, 64))
+        kinds = (self.unsigned, self.signed, self.real, self.boolean, self.labelled, self.text, self.octets, self.when, self.curve)
+        self.type, self.value = chance.choice(kinds)()
+
+    def whole(self, more: str = "", inside: str = "") -> str:
+        return f'<IntegerDataEncoding sizeInBits="{self.bits}" {more}>{inside}</IntegerDataEncoding>'
+
+    def named(self, kind: str, inside: str) -> str:
+        return f'<{kind}ParameterType name="T{self.name}">{inside}</{kind}ParameterType>'
+
+    def sent(self) -> int:
+        return self.chance.choice((0, (1 << self.bits) - 1, self.chance.getrandbits(self.bits)))
+
+    def unsigned(self):
+        return self.named("Integer", self.whole()), lambda sent: sent
+
+    def signed(self):
+        text = self.named("Integer", self.whole('encoding="twosComplement"'))
+        return text, lambda sent: sent - (sent >> self.bits - 1 << self.bits)
+
+    def real(self):
+        self.bits, form = self.chance.choice(((16, ">e"), (32, ">f"), (64, ">d")))
+        text = self.named("Float", f'<FloatDataEncoding sizeInBits="{self.bits}"/>')
+        return text, lambda sent: struct.unpack(form, sent.to_bytes(self.bits // 8, "big"))[0]
+
+    def boolean(self):
+        return self.named("Boolean", self.whole()), bool
+
+    def labelled(self):
+        known = {self.sent() for _ in range(3)}
+        rows = "".join(f'<Enumeration value="{it}" label="L{it}"/>' for it in known)
+        text = self.named("Enumerated", f"{self.whole()}<EnumerationList>{rows}</EnumerationList>")
+        return text, lambda sent: f"L{sent}" if sent in known else None
+
+    def text(self):
+        self.bits = 8 * self.chance.randrange(1, 12)
+        size = f"<SizeInBits><Fixed><FixedValue>{self.bits}</FixedValue></Fixed></SizeInBits>"
+        said = f'<StringDataEncoding encoding="ISO-8859-1">{size}</StringDataEncoding>'
+        return self.named("String", said), lambda sent: sent.to_bytes(self.bits // 8, "big").decode("latin-1")
+
+    def octets(self):
+        self.bits = 8 * self.chance.randrange(1, 12)
+        said = f"<BinaryDataEncoding><SizeInBits><FixedValue>{self.bits}</FixedValue></SizeInBits></BinaryDataEncoding>"
+        return self.named("Binary", said), lambda sent: sent.to_bytes(self.bits // 8, "big")
+
+    def when(self):
+        self.bits = self.chance.randrange(20, 33)
+        said = f'<Encoding scale="0.25">{self.whole()}</Encoding><ReferenceTime><Epoch>1990-01-01T00:00:00</Epoch></ReferenceTime>'
+        return self.named("AbsoluteTime", said), lambda sent: datetime(1990, 1, 1) + timedelta(seconds=sent / 4)
+
+    def curve(self):
+        self.bits = self.chance.randrange(1, 33)
+        powers = [self.chance.choice((0, 1, -2.5, 1e-3)) for _ in range(4)]
+        terms = "".join(f'<Term coefficient="{it}" exponent="{power}"/>' for power, it in enumerate(powers))
+        said = self.whole("", CALIBRATED.format(f"<PolynomialCalibrator>{terms}</PolynomialCalibrator>"))
+        return self.named("Float", said), lambda sent: math.fsum(it * sent**power for power, it in enumerate(powers))
+
+
+def random_system(chance: random.Random) -> tuple[str, list[Made], dict[str, int], int]:
+    """A system whose parameters stand in two containers, one the other's base, with holes between; and where, and all octets."""
+    made = [Made(chance, f"P{it}") for it in range(chance.randrange(1, 15))]
+    places, inside, at = {}, [], 48
+    for it in made:
+        gap = chance.choice((0, 0, 1, 13))
+        places[it.name], begin = at + gap, chance.random() < 0.5
+        where = f'<FixedValue>{at + gap if begin else gap}</FixedValue>'
+        reference = "containerStart" if begin else "previousEntry"
+        said = f'<LocationInContainerInBits referenceLocation="{reference}">{where}</LocationInContainerInBits>'
+        inside.append(f'<ParameterRefEntry parameterRef="{it.name}">{said if gap or begin else ""}</ParameterRefEntry>')
+        at += gap + it.bits
+    cut = chance.randrange(len(made) + 1)
+    base = container("BASE", "".join(inside[:cut]))
+    last = container("C", "".join(inside[cut:]), '<Comparison parameterRef="COUNT" comparisonOperator="!=" value="6"/>', "BASE")
+    parameters = "".join(f'<Parameter name="{it.name}" parameterTypeRef="T{it.name}"/>' for it in made)
+    return system("".join(it.type for it in made), parameters, base + last), made, places, -(-at // 8) - 6
+
+
+class RandomSystems(TestCase):
+    def test_round_trips(self) -> None:
+        for seed in range(SYSTEMS):
+            with self.subTest(seed=seed):
+                chance = random.Random(seed)
+                text, made, places, octets = random_system(chance)
+                rows = [{it.name: it.sent() for it in made} for _ in range(5)]
+                payloads = []
+                for row in rows:
+                    packed = chance.getrandbits(8 * octets)
+                    for it in made:
+                        shift = 48 + 8 * octets - places[it.name] - it.bits
+                        packed = packed & ~((1 << it.bits) - 1 << shift) | row[it.name] << shift
+                    payloads.append(packed.to_bytes(octets, "big"))
+                found = table(text, *payloads)
+                self.assertEqual(plain(found["COUNT"]), [5, 7, 8, 9])
+                for it in made:
+                    self.compare(it, [row[it.name] for row in rows[:1] + rows[2:]], plain(found[it.name]))
+
+    def compare(self, made: Made, sent: list[int], found: list) -> None:
+        for one, value in zip(sent, found, strict=True):
+            wanted = made.value(one)
+            if isinstance(wanted, float) and not isinstance(value, str):
+                both = wanted != wanted and value is None or wanted == value
+                self.assertTrue(both or math.isclose(wanted, value, rel_tol=1e-9, abs_tol=1e-9), (made.type, one, wanted, value))
+            else:
+                self.assertEqual((value, type(value)), (wanted, type(wanted)), made.type)
+
+
+class WithoutNumpy(WithModules):
+    """The same with lists as columns."""
+
+    def setUp(self) -> None:
+        super().setUp()
+        self.have(numpy=None, pandas=None)
+
+
+@needs("numpy")
+class SystemAsLists(System, WithoutNumpy):
+    pass
+
+
+@needs("numpy")
+class RandomSystemsAsLists(RandomSystems, WithoutNumpy):
+    pass
+
+
+if __name__ == "__main__":
+    unittest.main()

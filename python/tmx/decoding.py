@@ -1,0 +1,234 @@
+"""What raw values of fields mean: labels, calibrated values, texts and times, each in a column before its raw one."""
+
+import math
+from bisect import bisect_right
+from collections.abc import Mapping, Sequence
+from dataclasses import dataclass
+from itertools import compress
+from typing import TYPE_CHECKING, Any, Protocol
+
+from .arrays import objects
+from .definition import Column, column_named
+from .errors import ColumnError
+from .time_codes import Ticks, TimeCode
+from .values import module
+
+if TYPE_CHECKING:
+    from .fields import Fields
+
+RAW = "_raw"  # how the name of a raw column ends
+
+
+class Decoder(Protocol):
+    """What makes a column of its raw one.  `type` is the type of the new column."""
+
+    type: str
+
+    def values(self, name: str, raw: Any) -> Any: ...
+
+
+# Calibrations.
+
+
+@dataclass(frozen=True)
+class Polynomial:
+    """A calibration: the sum of coefficients times powers of the raw value, from the power 0 up."""
+
+    coefficients: Sequence[float]
+    type = "float"
+
+    def values(self, name: str, raw: Any) -> Any:
+        numpy, given = module("numpy"), floats(name, raw)
+        powers = [float(it) for it in self.coefficients] or [0.0]
+        if numpy is not None:
+            return numpy.polynomial.polynomial.polyval(given, powers)
+        return [horner(powers, it) for it in given]
+
+
+def horner(coefficients: Sequence[float], value: float) -> float:
+    """A polynomial's value, worked out as numpy does."""
+    found = coefficients[-1] + value * 0
+    for coefficient in coefficients[-2::-1]:
+        found = coefficient + found * value
+    return found
+
+
+@dataclass(frozen=True)
+class Spline:
+    """A calibration by points, pairs of a raw value and its calibrated value.
+
+    order        1 for straight lines between points; 0 for steps, each from its point up to the next
+    extrapolate  whether the first and last lines, or steps, go on beyond the points; else there is no value there: NaN
+
+    Raises ValueError where there are no points, or two of one raw value, or the order is another.
+    """
+
+    points: Sequence[tuple[float, float]]
+    order: int = 1
+    extrapolate: bool = False
+    type = "float"
+
+    def __post_init__(self) -> None:
+        if self.order not in (0, 1):
+            raise ValueError(f"a spline is of order 0 or 1, and not {self.order}")
+        if not self.points or len({raw for raw, _ in self.points}) < len(self.points):
+            raise ValueError("a spline has points, each of another raw value")
+
+    def values(self, name: str, raw: Any) -> Any:
+        numpy, given = module("numpy"), floats(name, raw)
+        points = sorted((float(one), float(other)) for one, other in self.points)
+        raws, calibrated = [it for it, _ in points], [it for _, it in points]
+        if numpy is None:
+            return [self.value(raws, calibrated, it) for it in given]
+        kinds, places = numpy.unique(given, return_inverse=True)
+        return numpy.array([self.value(raws, calibrated, it) for it in kinds.tolist()], float)[places]
+
+    def value(self, raws: Sequence[float], calibrated: Sequence[float], raw: float) -> float:
+        if math.isnan(raw) or not (self.extrapolate or raws[0] <= raw <= raws[-1]):
+            return math.nan
+        at = bisect_right(raws, raw) - 1
+        if self.order == 0 or len(raws) == 1:
+            return calibrated[max(at, 0)]
+        at = min(max(at, 0), len(raws) - 2)
+        slope = (calibrated[at + 1] - calibrated[at]) / (raws[at + 1] - raws[at])
+        return calibrated[at] + slope * (raw - raws[at])
+
+
+def floats(name: str, raw: Any) -> Any:
+    """A column of numbers as floats.  Raises ColumnError where it is none."""
+    if not is_numbers(raw, "uif", (int, float)):
+        raise ColumnError(f"the column {name!r} has no numbers, and only numbers are calibrated")
+    return [float(it) for it in raw] if module("numpy") is None else raw.astype("float64")
+
+
+def is_numbers(raw: Any, kinds: str, types: tuple[type, ...]) -> bool:
+    """Whether a column has numbers, by the kinds that numpy has for them, or by their types."""
+    return all(isinstance(it, types) for it in raw) if module("numpy") is None else raw.dtype.kind in kinds
+
+
+# Labels.
+
+
+@dataclass(frozen=True)
+class Labels:
+    """The label of each raw value, or of each range of them.  Others have none."""
+
+    labels: Mapping[int | range, str]
+    type = "label"
+
+    def values(self, name: str, raw: Any) -> Any:
+        pairs = [(it if isinstance(it, range) else range(it, it + 1), label) for it, label in self.labels.items()]
+        ranges = sorted(pairs, key=lambda it: it[0].start)
+        starts = [it.start for it, _ in ranges]
+        names = list(dict.fromkeys(self.labels.values()))
+        codes = {label: code for code, label in enumerate(names)}
+        numpy, pandas = module("numpy"), module("pandas")
+
+        def code_of(value: int) -> int:
+            at = bisect_right(starts, value) - 1
+            return codes[ranges[at][1]] if at >= 0 and value in ranges[at][0] else -1
+
+        if not is_numbers(raw, "ui", (int,)):
+            raise ColumnError(f"the column {name!r} has no whole numbers, and only these have labels")
+        if numpy is None:
+            return [([*names, None])[code_of(it)] for it in raw]
+        kinds, places = numpy.unique(raw, return_inverse=True)
+        found = numpy.array([code_of(it) for it in kinds.tolist()], int)[places]
+        return numpy.array([*names, None], object)[found] if pandas is None else pandas.Categorical.from_codes(found, names)
+
+
+@dataclass(frozen=True)
+class Truth:
+    """Whether a raw number is another one than 0."""
+
+    type = "bool"
+
+    def values(self, name: str, raw: Any) -> Any:
+        return [it != 0 for it in raw] if module("numpy") is None else raw != 0
+
+
+@dataclass(frozen=True)
+class Text:
+    """A text in an encoding, which may end before its field does.  What isn't in the encoding is shown by a replacement character."""
+
+    encoding: str
+    end: bytes | None = None
+    type = "text"
+
+    def values(self, name: str, raw: Any) -> Any:
+        octets = (it if self.end is None else it.partition(self.end)[0] for it in raw)
+        return objects([it.decode(self.encoding, "replace") for it in octets])
+
+
+@dataclass(frozen=True)
+class Timed:
+    """The time of each value."""
+
+    code: TimeCode | Ticks
+    type = "time"
+
+    def values(self, name: str, raw: Any) -> Any:
+        return self.code.times(name, raw)[0]
+
+
+# Tables.
+
+
+def decoders_of(
+    labels: Mapping[str, Mapping[int | range, str]] | None,
+    curves: Mapping[str, Sequence[float] | Polynomial | Spline] | None,
+    times: Mapping[str, TimeCode | Ticks] | None,
+) -> dict[str, Decoder]:
+    """What a caller asks for, by column.  Raises ColumnError where a column comes twice."""
+    found: dict[str, Decoder] = {}
+    asked: list[tuple[str, Decoder]] = [(name, Labels(it)) for name, it in (labels or {}).items()]
+    for name, curve in (curves or {}).items():
+        asked.append((name, curve if isinstance(curve, (Polynomial, Spline)) else Polynomial(curve)))
+    asked += [(name, Timed(it)) for name, it in (times or {}).items()]
+    for name, decoder in asked:
+        if name in found:
+            raise ColumnError(f"the column {name!r} is to be decoded in two ways")
+        found[name] = decoder
+    return found
+
+
+def decoded(fields: "Fields", decoders: Mapping[str, Decoder]) -> "Fields":
+    """The table with decoded columns; behind each stands the raw one.  Raises ColumnError where one isn't there, or two are."""
+    for name in decoders:
+        column_named(fields.columns, name)
+        if f"{name}{RAW}" in fields:
+            raise ColumnError(f"the table has a column {name + RAW!r} already")
+    columns: list[Column] = []
+    values: list[Any] = []
+    bad = fields.bad_times
+    for column in fields.columns:
+        raw = fields[column.name]
+        decoder = decoders.get(column.name)
+        if decoder is not None:
+            columns.append(Column(column.name, decoder.type, column.bits))
+            values.append(decoder.values(column.name, raw))
+            bad += no_times(values[-1]) if decoder.type == "time" else 0
+            column = Column(f"{column.name}{RAW}", column.type, column.bits)
+        columns.append(column)
+        values.append(raw)
+    found = fields.with_columns(columns, values)
+    found.bad_times = bad
+    return found
+
+
+def no_times(times: Any) -> int:
+    """How many times of a column are none."""
+    numpy = module("numpy")
+    return int(times.count(None) if numpy is None else numpy.isnat(times).sum())
+
+
+def rows_where(fields: "Fields", kept: Sequence[bool]) -> "Fields":
+    """The rows of a table for which this holds."""
+    numpy = module("numpy")
+
+    def chosen(values: Any) -> Any:
+        return list(compress(values, kept)) if numpy is None else values[numpy.array(kept, bool)]
+
+    found = fields.with_columns(fields.columns, [chosen(it) for it in fields.values()])
+    found.time = None if fields.time is None else chosen(fields.time)
+    return found

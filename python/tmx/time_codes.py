@@ -1,0 +1,156 @@
+"""Time codes of CCSDS 301.0-B-4 and counts of seconds: how a time stands in octets or in a number."""
+
+import math
+import re
+import struct
+from collections.abc import Iterable
+from dataclasses import dataclass
+from fractions import Fraction
+from typing import Any
+
+from .errors import ColumnError
+from .leap_seconds import NANOSECONDS
+from .times import Epoch, clock_of, times_of
+
+SECOND, DAY = 10**6, 86400 * 10**6  # in microseconds
+EPOCHS = {"cds": "1958-01-01", ">f8": "1970-01-01", "<f8": "1970-01-01"}  # of second 0, where none is given
+LAYOUTS = {6: (2, 0), 7: (3, 0), 8: (2, 2), 9: (3, 2), 10: (2, 4), 11: (3, 4)}  # of CDS: octets of days, and below a millisecond
+FORM = r"(?:(cds)(6|7|8|9|10|11)?|(cuc)(?:([1-7])\.([0-9]|10))?|([<>]f8))"
+MOST_OCTETS = 20  # of a time, its P-field included
+
+
+@dataclass(frozen=True)
+class Code:
+    """How a time stands in octets.
+
+    kind    `cds`, `cuc`, `>f8` or `<f8`
+    coarse  the octets of days, of seconds, or of the float
+    fine    the octets of what is less than a millisecond, or than a second
+    lead    the octets before it that tell the others, the P-field of CCSDS 301.0-B-4; none if they aren't there
+    """
+
+    kind: str
+    coarse: int
+    fine: int = 0
+    lead: bytes = b""
+
+    @property
+    def octets(self) -> int:
+        return len(self.lead) + self.coarse + (4 if self.kind == "cds" else 0) + self.fine
+
+    def passed(self, octets: bytes, second: int = SECOND) -> int | None:
+        """The time behind second 0, in so many parts of a second, rounded down; None where the octets are no such time.
+
+        Floats are rounded down to microseconds, since most have no more.
+        """
+        if len(octets) < self.octets or not octets.startswith(self.lead):
+            return None
+        said = octets[len(self.lead) : self.octets]
+        if self.kind == "cds":
+            return self.of_days(said, second)
+        if self.kind == "cuc":
+            return int.from_bytes(said) * second >> 8 * self.fine
+        (seconds,) = struct.unpack(f"{self.kind[0]}d", said)
+        return math.floor(seconds * SECOND) * (second // SECOND) if math.isfinite(seconds) else None
+
+    def of_days(self, said: bytes, second: int) -> int | None:
+        days, milliseconds = int.from_bytes(said[: self.coarse]), int.from_bytes(said[self.coarse : self.coarse + 4])
+        below, unit = int.from_bytes(said[self.coarse + 4 :]), 10**12 if self.fine == 4 else SECOND  # its parts of a second
+        if milliseconds * 1000 >= DAY + SECOND or below * 1000 >= unit:  # a day may have a leap second
+            return None
+        return (days * 86400 + milliseconds // 1000) * second + milliseconds % 1000 * second // 1000 + below * second // unit
+
+
+def code_of_lead(kind: str, octets: bytes) -> Code | None:
+    """How a time stands in octets that begin with its P-field; None where it is none of this kind."""
+    first, second = octets[:2].ljust(2, b"\0")
+    if kind == "cds" and first & 0xF0 == 0x40 and first & 3 != 3:
+        return Code(kind, 3 if first & 4 else 2, (0, 2, 4)[first & 3], octets[:1])
+    if kind == "cuc" and first & 0x70 in (0x10, 0x20):
+        coarse, fine = (first >> 2 & 3) + 1, first & 3
+        if first < 0x80:
+            return Code(kind, coarse, fine, octets[:1])
+        if second < 0x80:
+            return Code(kind, coarse + (second >> 5 & 3), fine + (second >> 2 & 7), octets[:2])
+    return None
+
+
+def code_of(form: str, octets: bytes) -> Code | None:
+    """How a time of this form stands; where the form names no octets, by the P-field that these begin with."""
+    said = re.fullmatch(FORM, form)
+    assert said is not None
+    if said[6]:
+        return Code(form, 8)
+    if said[2]:
+        return Code("cds", *LAYOUTS[int(said[2])])
+    if said[4]:
+        return Code("cuc", int(said[4]), int(said[5]))
+    return code_of_lead(form, octets)
+
+
+@dataclass(frozen=True)
+class TimeCode:
+    """Times in a column of octets.
+
+    form   `cds6` to `cds11` and `cuc4.2` by their octets, `cds` and `cuc` with a P-field, `>f8` and `<f8` in seconds
+    epoch  the time of second 0, or a scale: `TAI`, `GPS`, `J2000` or `UNIX`; without it 1958 for CDS, and 1970 for floats
+
+    Raises ValueError where the form is none, or a CUC has no epoch.
+    """
+
+    form: str
+    epoch: Epoch | None = None
+
+    def __post_init__(self) -> None:
+        if not re.fullmatch(FORM, self.form):
+            raise ValueError(f"a time is of the form cds8, cuc4.2 or >f8, and not {self.form!r}")
+        if self.epoch is None and self.form[:3] not in EPOCHS:
+            raise ValueError("times of cuc need an epoch, as TAI")
+
+    def times(self, name: str, values: Iterable[Any]) -> tuple[Any, int]:
+        """The time of each value, and how many are none.  Raises ColumnError where the column isn't of octets."""
+        octets = list(values)
+        if not all(isinstance(it, bytes) for it in octets):
+            raise ColumnError(f"the column {name!r} has no octets, and {self.form} stands in octets: see Ticks")
+        code = code_of(self.form, octets[0]) if octets else None
+        passed = (None if code is None else code.passed(it, NANOSECONDS) for it in octets)
+        return times_of(passed, clock_of(EPOCHS[self.form[:3]] if self.epoch is None else self.epoch))
+
+
+@dataclass(frozen=True)
+class Ticks:
+    """Times in a column of numbers: so many seconds to each, and so many more, behind second 0.
+
+    epoch    the time of second 0, or a scale: `TAI`, `GPS`, `J2000` or `UNIX`
+    seconds  how long one is, as a number or a text, "0.001"
+    offset   the seconds that are added
+
+    Raises ValueError where a text is no number.
+    """
+
+    epoch: Epoch
+    seconds: Fraction | int | float | str = 1
+    offset: Fraction | int | float | str = 0
+
+    def __post_init__(self) -> None:
+        Fraction(self.seconds), Fraction(self.offset)
+
+    def times(self, name: str, values: Any) -> tuple[Any, int]:
+        """The time of each value, rounded down, of floats to microseconds, and how many are none.
+
+        Raises ColumnError where the column has no numbers.
+        """
+        numbers = values.tolist() if hasattr(values, "tolist") else list(values)
+        if not all(isinstance(it, (int, float)) for it in numbers):
+            raise ColumnError(f"the column {name!r} has no numbers, and ticks are numbers: see TimeCode")
+        factor, offset = Fraction(self.seconds) * NANOSECONDS, Fraction(self.offset) * NANOSECONDS
+        whole = factor.denominator * offset.denominator
+        factors = int(factor * whole), int(offset * whole)
+        return times_of((passed_of(it, *factors, whole) for it in numbers), clock_of(self.epoch))
+
+
+def passed_of(number: int | float, factor: int, offset: int, whole: int) -> int | None:
+    """The nanoseconds of a number, in whole microseconds of a float; None where that is not finite."""
+    if isinstance(number, int):
+        return (number * factor + offset) // whole
+    return math.floor((number * factor + offset) / (whole * 1000)) * 1000 if math.isfinite(number) else None

@@ -1,0 +1,303 @@
+"""XTCE files (CCSDS 660.0-B, OMG 1.1 and 1.2): a mission's packets as tables.
+
+    system = tmx.xtce.read("mission.xml")
+    table = system.fields(recording, "HOUSEKEEPING")
+
+What has no fixed place in a packet is refused, container by container.  docs/MISSIONS.md is the guide.
+"""
+
+import csv
+import io
+import operator
+import os
+from collections import Counter
+from collections.abc import Callable, Iterator, Mapping, Sequence
+from contextlib import contextmanager, suppress
+from dataclasses import dataclass
+from tempfile import NamedTemporaryFile
+from typing import Any
+
+from .arguments import Number, Numbers
+from .decoding import RAW, Decoder, Labels, Text, Timed, Truth, decoded, rows_where
+from .fields import Fields
+from .progress import Progress
+from .recording import Recording
+from .values import module
+from .xtce_file import Index, XtceError, read_root
+from .xtce_layout import Compared, Layout, Placed, layout
+from .xtce_types import MOST
+
+__all__ = ["Field", "System", "XtceError", "read"]
+
+APPLICATION = (5, 11)  # where a packet's header has its application: the first bit, and how many
+HEADING = ("name", "data_type", "bit_length", "bit_offset")
+ORDERS: Mapping[str, Callable[[Any, Any], Any]] = {
+    "==": operator.eq,
+    "!=": operator.ne,
+    "<": operator.lt,
+    "<=": operator.le,
+    ">": operator.gt,
+    ">=": operator.ge,
+}
+
+
+def read(path: str | os.PathLike[str]) -> "System":
+    """What an XTCE file says.  Raises XtceError where it is none, has a DOCTYPE, or includes other files; and OSError."""
+    index = Index()
+    index.add(read_root(path), "")
+    return System(index)
+
+
+@dataclass(frozen=True)
+class Field:
+    """A field of a container.
+
+    name       the name of its column: the parameter's, or its path where two of the container have one name
+    parameter  the parameter's path
+    type       `uint`, `int`, `float` or `str`
+    bits       its length
+    offset     where it begins, in bits from the packet's first bit
+    decoder    what makes its meaning of its raw value; None where that is its value
+    """
+
+    name: str
+    parameter: str
+    type: str
+    bits: int
+    offset: int
+    decoder: Decoder | None
+
+    @property
+    def raw(self) -> str:
+        """The name of the column of its raw value."""
+        return self.name if self.decoder is None else self.name + RAW
+
+
+@dataclass(frozen=True)
+class Condition:
+    """What a row has to keep: a column, how it is compared, and with what."""
+
+    column: str
+    order: str
+    value: Any
+
+    def kept(self, fields: Fields) -> Sequence[bool]:
+        values, compare = fields[self.column], ORDERS[self.order]
+        if module("numpy") is None:
+            return [bool(compare(it, self.value)) for it in values]
+        return list(compare(values, self.value))
+
+
+class System:
+    """The containers of a file, by their paths, as `/Mission/Instrument/HOUSEKEEPING`.
+
+    Where only one container has a name, that is enough to name it.
+    """
+
+    def __init__(self, index: Index) -> None:
+        self.index = index
+
+    def __repr__(self) -> str:
+        return f"<System of {len(self.containers)} containers>"
+
+    @property
+    def containers(self) -> list[str]:
+        """The paths of all containers."""
+        return list(self.index.containers)
+
+    def refusals(self) -> dict[str, str]:
+        """Why a container can't be read, for each of these."""
+        found = {}
+        for path in self.containers:
+            try:
+                self.columns(path)
+            except XtceError as error:
+                found[path] = str(error)
+        return found
+
+    def path(self, container: str) -> str:
+        """The path of a container.  Raises XtceError where there is none of this name, or several."""
+        if container in self.index.containers:
+            return container
+        found = [it for it in self.index.containers if it.rpartition("/")[2] == container]
+        if len(found) != 1:
+            raise XtceError(container, f"this may be {' or '.join(found)}" if found else "there is no such container")
+        return found[0]
+
+    def columns(self, container: str) -> list[Field]:
+        """The fields of a container, with those of its base containers.  Raises XtceError."""
+        return columns_of(self.path(container), layout(self.index, self.path(container)))
+
+    def apid(self, container: str) -> int | None:
+        """The application that the container's packets have; None where it doesn't say.  Raises XtceError."""
+        return self.asked(container)[1]
+
+    def definition(self, container: str) -> str:
+        """The definition of the container's fields, for `tmx fields`.  Raises XtceError."""
+        text = io.StringIO()
+        rows = csv.writer(text, lineterminator="\n")
+        rows.writerow(HEADING)
+        rows.writerows((it.name, it.type, it.bits, it.offset) for it in self.columns(container))
+        return text.getvalue()
+
+    def asked(self, container: str) -> tuple[list[Field], int | None, list[Condition]]:
+        """The fields, the application, and what else the packets have to keep."""
+        path = self.path(container)
+        found = layout(self.index, path)
+        fields = columns_of(path, found)
+        applications, conditions = set(), []
+        for compared in found.compared:
+            field = field_of(fields, compared, path)
+            if is_application(field, compared):
+                applications.add(application(field, compared, path))
+            else:
+                conditions.append(condition(field, compared, path))
+        if len(applications) > 1:
+            raise XtceError(path, f"its packets are to have the applications {sorted(applications)} at once")
+        return fields, next(iter(applications), None), conditions
+
+    def fields(
+        self,
+        recording: Recording,
+        container: str,
+        *,
+        apid: Number | None = None,
+        channel: Numbers = None,
+        report: str | os.PathLike[str] | None = None,
+        progress: Progress = False,
+    ) -> Fields:
+        """The decoded table of a container's packets.
+
+        A parameter's value stands in the column of its name; where that is decoded, the raw one stands behind it.  If a container
+        has one absolute time, that is also the time of each row.  `apid` says the application where the container doesn't.
+
+        Raises XtceError, and what `Recording.fields` raises.
+        """
+        fields, number, conditions = self.wanted(container, apid)
+        with definition_file(self.definition(container)) as name:
+            found = recording.fields(name, number, channel=channel, report=report, progress=progress)
+        return table_of(found, fields, conditions)
+
+    def blocks(
+        self,
+        recording: Recording,
+        container: str,
+        rows: Number,
+        *,
+        apid: Number | None = None,
+        channel: Numbers = None,
+        report: str | os.PathLike[str] | None = None,
+        progress: Progress = False,
+    ) -> Iterator[Fields]:
+        """The same as tables one by one, each of so many packets, of which those are left out that are another container's."""
+        fields, number, conditions = self.wanted(container, apid)
+        with definition_file(self.definition(container)) as name:
+            for found in recording.fields(name, number, channel=channel, report=report, progress=progress, blocks=rows):
+                yield table_of(found, fields, conditions)
+
+    def wanted(self, container: str, apid: Number | None) -> tuple[list[Field], Number, list[Condition]]:
+        """The same as `asked`, with an application."""
+        fields, said, conditions = self.asked(container)
+        number = said if apid is None else apid
+        if number is None:
+            raise XtceError(self.path(container), "its packets have no application: say one by apid")
+        return fields, number, conditions
+
+
+@contextmanager
+def definition_file(text: str) -> Iterator[str]:
+    """A file with a definition, for so long."""
+    with NamedTemporaryFile("w", suffix=".csv", encoding="utf-8") as file:
+        file.write(text)
+        file.flush()
+        yield file.name
+
+
+def table_of(found: Fields, fields: Sequence[Field], conditions: Sequence[Condition]) -> Fields:
+    """The decoded rows that keep the conditions."""
+    found = decoded(found, {it.name: it.decoder for it in fields if it.decoder is not None})
+    if conditions:
+        kept = [all(row) for row in zip(*(it.kept(found) for it in conditions))]
+        found = rows_where(found, kept)
+    times = [it.name for it in fields if isinstance(it.decoder, Timed)]
+    if len(times) == 1:
+        found.time = found[times[0]]
+    return found
+
+
+def columns_of(path: str, found: Layout) -> list[Field]:
+    """The fields of a layout with the names of their columns.  Raises XtceError where there are too many, or one comes twice."""
+    if len(found.placed) > MOST:
+        raise XtceError(path, f"it has {len(found.placed)} fields, and a definition at most {MOST}")
+    names = Counter(it.path + it.suffix for it in found.placed)
+    if twice := next((it for it, count in names.items() if count > 1), None):
+        raise XtceError(path, f"the parameter {twice} stands in it twice")
+    parameters: dict[str, set[str]] = {}
+    for it in found.placed:
+        parameters.setdefault(short(it), set()).add(it.path)
+    return [field_at(it, len(parameters[short(it)]) == 1) for it in found.placed]
+
+
+def short(placed: Placed) -> str:
+    """A parameter's name without its path."""
+    return placed.path.rpartition("/")[2]
+
+
+def field_at(placed: Placed, is_short: bool) -> Field:
+    kind = placed.kind
+    name = (short(placed) if is_short else placed.path) + placed.suffix
+    return Field(name, placed.path, kind.data_type, kind.bits, placed.offset, kind.decoder)
+
+
+# Comparisons.
+
+
+def field_of(fields: Sequence[Field], compared: Compared, path: str) -> Field:
+    """The field that is compared.  Raises XtceError where it isn't among the container's."""
+    name = compared.parameter.rpartition("/")[2] + compared.suffix
+    for it in fields:
+        if it.parameter == compared.parameter and it.name in (name, compared.parameter + compared.suffix):
+            return it
+    raise XtceError(path, f"{compared.parameter}{compared.suffix} is compared, and has no place in it")
+
+
+def is_application(field: Field, compared: Compared) -> bool:
+    return compared.order == "==" and (field.offset, field.bits) == APPLICATION and field.type == "uint"
+
+
+def application(field: Field, compared: Compared, path: str) -> int:
+    """The application that a comparison asks for: a number, or its label."""
+    if compared.is_calibrated and isinstance(field.decoder, Labels):
+        found = [it for it, label in field.decoder.labels.items() if label == compared.value]
+        if len(found) == 1 and isinstance(found[0], int):
+            return found[0]
+    value = number_of(compared.value)
+    if not isinstance(value, int) or not 0 <= value <= 2047:
+        raise XtceError(path, f"{compared.value!r} is no application")
+    return value
+
+
+def condition(field: Field, compared: Compared, path: str) -> Condition:
+    """What a comparison asks of rows.  Raises XtceError where it isn't understood."""
+    if compared.order not in ORDERS:
+        raise XtceError(path, f"the comparison {compared.order!r} is not known")
+    decoder = field.decoder if compared.is_calibrated else None
+    by_name = isinstance(decoder, (Labels, Truth, Text))
+    value: Any = compared.value if isinstance(decoder, (Labels, Text)) else number_of(compared.value)
+    if isinstance(decoder, Truth):
+        value = {"true": True, "1": True, "false": False, "0": False}.get(compared.value.lower())
+    if value is None or by_name and compared.order not in ("==", "!=") or isinstance(decoder, Timed):
+        raise XtceError(path, f"{field.name} {compared.order} {compared.value!r} is not understood")
+    if decoder is None and field.type == "str":
+        raise XtceError(path, f"{field.name} has octets, which are not compared")
+    return Condition(field.name if decoder is not None else field.raw, compared.order, value)
+
+
+def number_of(text: str) -> int | float | None:
+    """The number of a text, also a hexadecimal one; None where it is none."""
+    said = text.strip().lower()
+    with suppress(ValueError):
+        return int(said, 16 if said.startswith("0x") else 10)
+    with suppress(ValueError):
+        return float(said)
+    return None

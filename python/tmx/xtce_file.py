@@ -1,0 +1,166 @@
+"""XTCE files (CCSDS 660.0-B, OMG 1.1 and 1.2): what a file defines, by its paths, and the references between."""
+
+import os
+from collections.abc import Iterator
+from dataclasses import dataclass, field
+from typing import IO, Any, NoReturn
+from xml.etree.ElementTree import Element, ParseError, XMLParser, parse
+from xml.parsers import expat
+
+from .errors import Error
+
+SETS = {"ParameterTypeSet": "types", "ParameterSet": "parameters", "ContainerSet": "containers"}
+WHAT = {"types": "type", "parameters": "parameter", "containers": "container"}
+INCLUDE = "{http://www.w3.org/2001/XInclude}include"
+
+
+class XtceError(Error):
+    """An XTCE file, or a part of it, can't be used.  `path` names the part, `reason` says why."""
+
+    def __init__(self, path: str, reason: str) -> None:
+        super().__init__(f"{path}: {reason}")
+        self.path = path
+        self.reason = reason
+
+
+# Elements.
+
+
+def local(element: Element) -> str:
+    """An element's name without its namespace."""
+    return element.tag.rpartition("}")[2]
+
+
+def below(element: Element | None) -> list[Element]:
+    """The elements right below one."""
+    return [] if element is None else list(element)
+
+
+def children(element: Element | None, name: str) -> Iterator[Element]:
+    """Those of this name."""
+    return (it for it in below(element) if local(it) == name)
+
+
+def child(element: Element | None, *names: str) -> Element | None:
+    """The first element at the end of this path below one."""
+    for name in names:
+        element = next(children(element, name), None)
+    return element
+
+
+def says(element: Element, name: str, default: bool) -> bool:
+    """The truth that an attribute says."""
+    return element.get(name, str(default)).lower() in ("true", "1")
+
+
+def integer(text: str | None, path: str) -> int:
+    """A whole number, also a hexadecimal one.  Raises XtceError."""
+    try:
+        return int((text or "").strip() or "no number", 16 if (text or "").lower().strip().startswith("0x") else 10)
+    except ValueError:
+        raise XtceError(path, f"{text!r} is no whole number") from None
+
+
+def real(text: str | None, path: str) -> float:
+    """A number.  Raises XtceError."""
+    try:
+        return float(text or "")
+    except ValueError:
+        raise XtceError(path, f"{text!r} is no number") from None
+
+
+def fixed(element: Element | None, path: str, what: str) -> int:
+    """The number of a FixedValue.  Raises XtceError where the value is another, as one that a parameter has."""
+    value = child(element, "FixedValue")
+    if value is None:
+        raise XtceError(path, f"{what} is not fixed")
+    return integer(value.text, path)
+
+
+# Files.
+
+
+def read_root(path: str | os.PathLike[str]) -> Element:
+    """The element of the whole file.  Raises XtceError where it is no XML, has a DOCTYPE, or includes other files; OSError."""
+    name = os.fspath(path)
+    with open(path, "rb") as file:
+        try:
+            refuse_doctype(file, name)
+            file.seek(0)
+            root = parse(file, XMLParser()).getroot()
+        except (ParseError, expat.ExpatError, ValueError, LookupError) as error:
+            raise XtceError(name, f"it is no XML: {error}") from None
+    if next(root.iter(INCLUDE), None) is not None:
+        raise XtceError(name, "it includes other files, which are not read")
+    if local(root) != "SpaceSystem":
+        raise XtceError(name, f"its element is {local(root)}, and not SpaceSystem")
+    return root
+
+
+class AtRoot(Exception):
+    """The first element has come."""
+
+
+def refuse_doctype(file: IO[bytes], name: str) -> None:
+    """Looks at what stands before the first element: only a DOCTYPE there can define entities or name other files."""
+
+    def refuse(*_: Any) -> NoReturn:
+        raise XtceError(name, "it has a DOCTYPE, which is not read")
+
+    def stop(*_: Any) -> NoReturn:
+        raise AtRoot
+
+    parser = expat.ParserCreate()
+    parser.StartDoctypeDeclHandler, parser.StartElementHandler = refuse, stop
+    try:
+        parser.ParseFile(file)
+    except AtRoot:
+        return
+
+
+@dataclass
+class Index:
+    """The elements that a file defines, by their paths: `/System/Part/NAME`."""
+
+    types: dict[str, Element] = field(default_factory=dict)
+    parameters: dict[str, Element] = field(default_factory=dict)
+    containers: dict[str, Element] = field(default_factory=dict)
+
+    def add(self, system: Element, above: str) -> None:
+        """Adds what a SpaceSystem defines, and the systems in it."""
+        path = f"{above}/{system.get('name', '')}"
+        for group in below(child(system, "TelemetryMetaData")):
+            if (kind := SETS.get(local(group))) is not None:
+                found: dict[str, Element] = getattr(self, kind)
+                found.update((f"{path}/{it.get('name')}", it) for it in group if it.get("name"))
+        for inner in children(system, "SpaceSystem"):
+            self.add(inner, path)
+
+    def find(self, kind: str, reference: str | None, of: str) -> str:
+        """The path that a reference from the element of a path means: in its system, or in the nearest one around that has it.
+
+        Raises XtceError where there is none.
+        """
+        found: dict[str, Element] = getattr(self, kind)
+        said = reference or ""
+        system = of.rpartition("/")[0]
+        while not said.startswith("/"):
+            if (path := joined(system, said)) in found:
+                return path
+            if not system:
+                break
+            system = system.rpartition("/")[0]
+        if said in found:
+            return said
+        raise XtceError(of, f"there is no {WHAT[kind]} {said!r}")
+
+
+def joined(system: str, reference: str) -> str:
+    """The path of a reference from a system, with `.` and `..` worked out."""
+    parts = system.split("/")
+    for part in reference.split("/"):
+        if part == "..":
+            parts.pop()
+        elif part != ".":
+            parts.append(part)
+    return "/".join(parts)

@@ -1,0 +1,258 @@
+"""The types of an XTCE file: how values stand in a packet, and what they mean."""
+
+import codecs
+from collections.abc import Iterator
+from dataclasses import dataclass, replace
+from fractions import Fraction
+from itertools import product
+from xml.etree.ElementTree import Element
+
+from .decoding import Decoder, Labels, Polynomial, Spline, Text, Timed, Truth
+from .time_codes import Ticks
+from .xtce_file import Index, XtceError, below, child, children, fixed, integer, local, real, says
+
+MOST = 1000  # fields of a definition
+INTEGERS = {"unsigned": "uint", "twosComplement": "int", "twosCompliment": "int"}  # the last as XTCE 1.1 spells it
+FLOATS = ("IEEE754_1985", "IEEE754")
+ENCODINGS = ("IntegerDataEncoding", "FloatDataEncoding", "StringDataEncoding", "BinaryDataEncoding")
+NUMBERS, WHOLE = ENCODINGS[:2], ENCODINGS[:1]
+ALLOWED = {  # which encodings a type may have
+    "IntegerParameterType": NUMBERS,
+    "FloatParameterType": NUMBERS,
+    "EnumeratedParameterType": WHOLE,
+    "BooleanParameterType": WHOLE,
+    "StringParameterType": ("StringDataEncoding",),
+    "BinaryParameterType": ("BinaryDataEncoding",),
+    "AbsoluteTimeParameterType": NUMBERS,
+}
+CALIBRATED = ("IntegerParameterType", "FloatParameterType")
+SINGLE = ("utf-8", "ascii", "iso8859-1", "cp1252")  # encodings in which an octet ends a text
+SECONDS = {"seconds": Fraction(1), "picoSeconds": Fraction(1, 10**12), "days": Fraction(86400)}  # units of times
+EPOCHS = {"TAI": "TAI", "GPS": "GPS", "J2000": "J2000", "UNIX": "UNIX", "POSIX": "UNIX"}
+
+
+@dataclass(frozen=True)
+class Kind:
+    """A value: its type in a definition, its bits, what makes its meaning, and what is behind the parameter's name."""
+
+    data_type: str
+    bits: int
+    decoder: Decoder | None = None
+    suffix: str = ""
+
+
+class Types:
+    """The types of a file.  What they can't say is an XtceError with the path of the parameter."""
+
+    def __init__(self, index: Index) -> None:
+        self.index = index
+
+    def kinds(self, name: str | None, of: str, path: str, depth: int = 0) -> list[Kind]:
+        """The values of a type, one behind another: of an array and an aggregate several.  `of` has the reference."""
+        type_path = self.index.find("types", name, of)
+        element = self.index.types[type_path]
+        if depth > 20:
+            raise XtceError(path, f"the type {type_path} contains itself")
+        if local(element) == "ArrayParameterType":
+            return self.array(element, type_path, path, child(element, "DimensionList"), depth)
+        if local(element) == "AggregateParameterType":
+            found: list[Kind] = []
+            for member in children(child(element, "MemberList"), "Member"):
+                inner = self.kinds(member.get("typeRef"), type_path, path, depth + 1)
+                found += [replace(it, suffix=f".{member.get('name')}{it.suffix}") for it in inner]
+            return found
+        return [self.single(Chain(self.chain(type_path, path)), path)]
+
+    def array(self, element: Element, type_path: str, path: str, dimensions: Element | None, depth: int = 0) -> list[Kind]:
+        """The values of an array of these dimensions."""
+        inner = self.kinds(element.get("arrayTypeRef"), type_path, path, depth + 1)
+        places = [indices(it, path) for it in children(dimensions, "Dimension")]
+        total = len(inner)
+        for it in places:
+            total *= len(it)
+        if not places or total > MOST:
+            raise XtceError(path, f"an array has dimensions, and at most {MOST} values")
+        names = ("".join(f"[{it}]" for it in place) for place in product(*places))
+        return [replace(it, suffix=name + it.suffix) for name in names for it in inner]
+
+    def chain(self, type_path: str, path: str) -> Iterator[Element]:
+        """A type, and those that it extends."""
+        seen: set[str] = set()
+        while type_path not in seen:
+            seen.add(type_path)
+            element = self.index.types[type_path]
+            yield element
+            if element.get("baseType") is None:
+                return
+            type_path = self.index.find("types", element.get("baseType"), type_path)
+        raise XtceError(path, f"the type {type_path} extends itself")
+
+    def single(self, chain: "Chain", path: str) -> Kind:
+        kind = local(chain.elements[0])
+        if kind not in ALLOWED:
+            raise XtceError(path, f"{kind} is not read")
+        inside: list[Element | None] = [chain.child("Encoding")] if kind == "AbsoluteTimeParameterType" else [*chain.elements]
+        encoding = next((it for element in inside for it in below(element) if local(it) in ENCODINGS), None)
+        if encoding is None:
+            raise XtceError(path, "its type has no data encoding")
+        if local(encoding) not in ALLOWED[kind]:
+            raise XtceError(path, f"{local(encoding)} of a {kind} is not read")
+        data_type, bits = encoded(encoding, path)
+        refuse_calibrators(encoding, kind, path)
+        return Kind(data_type, bits, meaning(kind, chain, encoding, path))
+
+
+class Chain:
+    """A type and those that it extends, as one: the first that has something counts."""
+
+    def __init__(self, elements: Iterator[Element]) -> None:
+        self.elements = list(elements)
+
+    def child(self, name: str) -> Element | None:
+        return next((it for element in self.elements for it in children(element, name)), None)
+
+
+def indices(dimension: Element, path: str) -> range:
+    """The indices of a dimension, its ends included."""
+    ends = (fixed(child(dimension, it), path, "the size of an array") for it in ("StartingIndex", "EndingIndex"))
+    start, end = ends
+    if not 0 <= start <= end < start + MOST:
+        raise XtceError(path, f"a dimension from {start} to {end} is none, or over {MOST}")
+    return range(start, end + 1)
+
+
+# How values stand in a packet.
+
+
+def encoded(encoding: Element, path: str) -> tuple[str, int]:
+    """The type and the bits of a field.  Raises XtceError where tmx has no such field."""
+    kind = local(encoding)
+    refuse_orders(encoding, path)
+    if kind == "StringDataEncoding":
+        if child(encoding, "SizeInBits", "LeadingSize") is not None:
+            raise XtceError(path, "a text with a leading size is not read")
+        return "str", octets(fixed(child(encoding, "SizeInBits", "Fixed"), path, "the size"), path)
+    if kind == "BinaryDataEncoding":
+        if child(encoding, "FromBinaryTransformAlgorithm") is not None:
+            raise XtceError(path, "algorithms are not run")
+        return "str", octets(fixed(child(encoding, "SizeInBits"), path, "the size"), path)
+    if kind == "FloatDataEncoding":
+        said, bits = encoding.get("encoding", FLOATS[0]), integer(encoding.get("sizeInBits", "32"), path)
+        if said not in FLOATS or bits not in (16, 32, 64):
+            raise XtceError(path, f"a float {said} of {bits} bits is not read")
+        return "float", bits
+    said, bits = encoding.get("encoding", "unsigned"), integer(encoding.get("sizeInBits", "8"), path)
+    if said not in INTEGERS or not 1 <= bits <= 64:
+        raise XtceError(path, f"an integer {said} of {bits} bits is not read")
+    return INTEGERS[said], bits
+
+
+def octets(bits: int, path: str) -> int:
+    """A size in whole octets."""
+    if bits < 8 or bits % 8:
+        raise XtceError(path, f"{bits} bits are no whole octets")
+    return bits
+
+
+def refuse_orders(encoding: Element, path: str) -> None:
+    """Refuses what doesn't have the most significant bit first, or has check bits."""
+    several = encoding.get("sizeInBits", "16") != "8"
+    if encoding.get("bitOrder", "mostSignificantBitFirst") != "mostSignificantBitFirst":
+        raise XtceError(path, "the least significant bit comes first, which is not read")
+    if several and encoding.get("byteOrder", "mostSignificantByteFirst") != "mostSignificantByteFirst":
+        raise XtceError(path, f"the byte order {encoding.get('byteOrder')} is not read")
+    if several and child(encoding, "ByteOrderList") is not None:
+        raise XtceError(path, "a ByteOrderList is not read")
+    if child(encoding, "ErrorDetectCorrect") is not None:
+        raise XtceError(path, "ErrorDetectCorrect is not read")
+
+
+def refuse_calibrators(encoding: Element, kind: str, path: str) -> None:
+    if child(encoding, "ContextCalibratorList") is not None:
+        raise XtceError(path, "context calibrators are not read")
+    if kind not in CALIBRATED and child(encoding, "DefaultCalibrator") is not None:
+        raise XtceError(path, f"a calibrator of a {kind} is not read")
+
+
+# What values mean.
+
+
+def meaning(kind: str, chain: Chain, encoding: Element, path: str) -> Decoder | None:
+    if kind in CALIBRATED:
+        return calibrator(child(encoding, "DefaultCalibrator"), path)
+    if kind == "EnumeratedParameterType":
+        return labels(chain.child("EnumerationList"), path)
+    if kind == "BooleanParameterType":
+        return Truth()
+    if kind == "StringParameterType":
+        return text(encoding, path)
+    return Timed(ticks(chain, path)) if kind == "AbsoluteTimeParameterType" else None
+
+
+def calibrator(default: Element | None, path: str) -> Decoder | None:
+    if default is None:
+        return None
+    polynomial, spline = child(default, "PolynomialCalibrator"), child(default, "SplineCalibrator")
+    if polynomial is not None:
+        return Polynomial(coefficients(polynomial, path))
+    if spline is None:
+        raise XtceError(path, "its calibrator is neither a polynomial nor a spline")
+    found = [(real(it.get("raw"), path), real(it.get("calibrated"), path)) for it in children(spline, "SplinePoint")]
+    try:
+        return Spline(tuple(found), integer(spline.get("order", "1"), path), says(spline, "extrapolate", False))
+    except ValueError as error:
+        raise XtceError(path, str(error)) from None
+
+
+def coefficients(polynomial: Element, path: str) -> tuple[float, ...]:
+    """A polynomial's coefficients from the power 0 up."""
+    found: dict[int, float] = {}
+    for term in children(polynomial, "Term"):
+        power = integer(term.get("exponent"), path)
+        if not 0 <= power <= 100 or power in found:
+            raise XtceError(path, f"a term of exponent {power} is out of range, or comes twice")
+        found[power] = real(term.get("coefficient"), path)
+    return tuple(found.get(it, 0.0) for it in range(max(found, default=0) + 1))
+
+
+def labels(enumerations: Element | None, path: str) -> Labels:
+    found: dict[int | range, str] = {}
+    for it in children(enumerations, "Enumeration"):
+        least = integer(it.get("value"), path)
+        most = integer(it.get("maxValue", it.get("value")), path)
+        found[least if least == most else range(least, most + 1)] = it.get("label", "")
+    return Labels(found)
+
+
+def text(encoding: Element, path: str) -> Text:
+    try:
+        name = codecs.lookup(encoding.get("encoding", "UTF-8")).name
+    except LookupError:
+        raise XtceError(path, f"the encoding {encoding.get('encoding')} is not known") from None
+    end = child(encoding, "SizeInBits", "TerminationChar")
+    if end is None:
+        return Text(name)
+    try:
+        octets = bytes.fromhex(end.text or "")
+    except ValueError:
+        octets = b""
+    if len(octets) != 1 or name not in SINGLE:
+        raise XtceError(path, f"the end {end.text!r} of a text in {name} is not read")
+    return Text(name, octets)
+
+
+def ticks(chain: Chain, path: str) -> Ticks:
+    """The seconds of a time behind its epoch."""
+    encoding, epoch = chain.child("Encoding"), child(chain.child("ReferenceTime"), "Epoch")
+    if epoch is None or encoding is None:
+        raise XtceError(path, "its time has no reference epoch")
+    units, said = encoding.get("units", "seconds"), (epoch.text or "").strip()
+    if units not in SECONDS:
+        raise XtceError(path, f"times in {units} are not read")
+    try:
+        scale, offset = (Fraction(encoding.get(*it)) * SECONDS[units] for it in (("scale", "1"), ("offset", "0")))
+        found = Ticks(EPOCHS.get(said, said), scale, offset)
+        found.times(path, [])
+        return found
+    except ValueError:
+        raise XtceError(path, f"the scale, the offset or the epoch {said!r} of its time is not read") from None

@@ -4,17 +4,17 @@ use Rattle.std.specs.Prelude.{bit_xor, replicate}
 use Rattle.std.specs.Int.Bits.{xor_assoc, xor_zero_r}
 use Rattle.std.specs.List.{range_with_len}
 use Rattle.std.proofs.lemmas.Nat.{xor_comm}
-use Rattle.std.proofs.lemmas.List.{length-take-le, take-append-drop, drop-append-le, drop_at, take_all, take-replicate, length-replicate, replicate-append-replicate}
+use Rattle.std.proofs.lemmas.List.{length-take-le, take-append-drop, drop-append-le, drop_at, take_all, take-replicate, drop-replicate, length-replicate, replicate-append-replicate}
 use Rattle.std.proofs.lemmas.Simd.{length-zip2, length-chunk, put_chunk_is, take_more_put_chunk, pick_l-range_with_len}
 use Rattle.std.proofs.Math.Seq.{take-add, drop-drop}
 use lib.Lanes.{zip2, put_chunk, pick_l}
 use Rattle.tm_bits.specs.Bits.{low_bits, bits_of, number}
 use Rattle.tm_bits.proofs.BitLemmas.{length-low_bits, length-bits_of, bits_of-append}
 use Rattle.tm_frame.specs.ErrorControl.{differ, subtract, long_division}
-use Rattle.tm_frame.specs.code.Folding.{remainder_from, octets_remainder, second_word, shifted}
+use Rattle.tm_frame.specs.code.Folding.{Folds, remainder_from, octets_remainder, rest_of_pair, shifted}
 use Rattle.tm_frame.proofs.Division.{low_bits-zero, low_bits-xor, remainder_from-append, remainder_from-nil, remainder_from-lt, octets_apart, error_control_of-remainder}
 use Rattle.tm_frame.proofs.Linear.{xor_exchange, remainder_from-xor, remainder_from-zeros, passed_linear}
-use Rattle.tm_frame.proofs.Fold.{folds_64, passed, shifted-passed, remainder-apart, zeros-passed, bits-fold}
+use Rattle.tm_frame.proofs.Fold.{passed, shifted-passed, remainder-apart, zeros-passed, bits-fold}
 
 -- ---- octets are added
 
@@ -90,7 +90,7 @@ pair_added octets pair at room sixteen =
     ∙ moved_last a b c r
     ∙ ap (λ k. bit_xor k c) (sym before)
 
--- ---- the two words of a pair
+-- ---- the two parts of a pair
 
 shifted-append : (n : ℕ) (xs ys : List Bool) → shifted n (xs ++ ys) ≡ bit_xor (shifted (length ys + n) xs) (shifted n ys)
 shifted-append n xs ys =
@@ -98,25 +98,25 @@ shifted-append n xs ys =
     ∙ remainder-apart xs (ys ++ replicate n false)
     ∙ ap (λ k. bit_xor (shifted k xs) (shifted n ys)) (length-append ys (replicate n false) ∙ ap (λ k. length ys + k) (length-replicate n false))
 
--- eight octets, and eight behind them
-words_apart : (n m : ℕ) (xs ys : List ℕ) → length ys ≡ 8 → m ≡ 8 + n
+-- octets before k others. Behind the others there are n, and so behind these there are m
+octets_apart_at : (n m k : ℕ) (xs ys : List ℕ) → length ys ≡ k → m ≡ k + n
     → shifted (8 * n) (bits_of (xs ++ ys)) ≡ bit_xor (shifted (8 * m) (bits_of xs)) (shifted (8 * n) (bits_of ys))
-words_apart n m xs ys eight further =
-    let behind : length (bits_of ys) + 8 * n ≡ 8 * m = omega (arith, length-bits_of ys, eight, further) in
+octets_apart_at n m k xs ys many further =
+    let behind : length (bits_of ys) + 8 * n ≡ 8 * m = omega (arith, length-bits_of ys, many, further) in
     ap (shifted (8 * n)) (bits_of-append xs ys)
     ∙ shifted-append (8 * n) (bits_of xs) (bits_of ys)
-    ∙ ap (λ k. bit_xor (shifted k (bits_of xs)) (shifted (8 * n) (bits_of ys))) behind
+    ∙ ap (λ j. bit_xor (shifted j (bits_of xs)) (shifted (8 * n) (bits_of ys))) behind
 
-pub across : (pair next : List ℕ) → length pair ≡ 16 → length next ≡ 16
-    → pick_l 0 (pair ++ next) (range_with_len 8 16) ≡ drop 8 pair ++ take 8 next
-across pair next both sixteen =
-    let second : List ℕ = drop 8 pair in
-    let first : List ℕ = take 8 next in
-    let seam : length (second ++ first) ≡ 16 =
-    length-append second first ∙ omega (arith, length-drop 8 pair, length-take-le 8 next (omega (arith, sixteen)), both) in
-    pick_l-range_with_len 0 (pair ++ next) 8 16 (omega (arith, length-append pair next, both, sixteen))
-    ∙ ap (take 16) (drop-append-le 8 pair next (omega (arith, both)) ∙ ap (λ l. second ++ l) (sym (take-append-drop 8 next)) ∙ sym (append_assoc second first (drop 8 next)))
-    ∙ take_at (second ++ first) (drop 8 next) 16 seam
+pub across : (first : ℕ) (pair next : List ℕ) → first ≤ 16 → length pair ≡ 16 → length next ≡ 16
+    → pick_l 0 (pair ++ next) (range_with_len first 16) ≡ drop first pair ++ take first next
+across first pair next few both sixteen =
+    let rest : List ℕ = drop first pair in
+    let front : List ℕ = take first next in
+    let seam : length (rest ++ front) ≡ 16 =
+    length-append rest front ∙ omega (arith, few, length-drop first pair, length-take-le first next (omega (arith, few, sixteen)), both) in
+    pick_l-range_with_len 0 (pair ++ next) first 16 (omega (arith, few, length-append pair next, both, sixteen))
+    ∙ ap (take 16) (drop-append-le first pair next (omega (arith, few, both)) ∙ ap (λ l. rest ++ l) (sym (take-append-drop first next)) ∙ sym (append_assoc rest front (drop first next)))
+    ∙ take_at (rest ++ front) (drop first next) 16 seam
 
 zero_octets : (n : ℕ) → bits_of (replicate n 0) ≡ replicate (8 * n) false
 unfolding bits_of
@@ -144,50 +144,55 @@ regrouped r a p f c s =
     ∙ xor_exchange a r q p
     ∙ sym (xor_assoc (bit_xor a q) r p)
 
--- What stands behind a pair, with the pair added at the three places, has the remainder of both. The second word of the pair before
+-- What stands behind a pair, with the pair added at the three places, has the remainder of both. The rest of the pair before
 -- is added there as well, and the pair's own one is left out.
-pub pair_folds : (before pair octets joined : List ℕ) (first second third m n : ℕ)
-    → third ≡ bit_xor second (shifted (8 * (n - (112 + 16))) (bits_of pair))
-    → second ≡ bit_xor first (shifted (8 * (m - (64 + 16))) (bits_of joined))
-    → first ≡ bit_xor (octets_remainder octets) (shifted (8 * (length octets - (16 + 16))) (bits_of pair))
-    → joined ≡ drop 8 before ++ take 8 pair
-    → n ≡ m → m ≡ length octets → 128 ≤ length octets → length pair ≡ 16
-    → bit_xor third (second_word (length octets - 88) pair) ≡ bit_xor (octets_remainder (pair ++ octets)) (second_word (length octets - 72) before)
-pair_folds before pair octets joined first second third m n is_third is_second is_first is_joined same_n same_m room sixteen =
+pub pair_folds : (step : ℕ) (before pair octets joined : List ℕ) (first second third m n : ℕ) → Folds (8 * step) → 4 ≤ step → step ≤ 8
+    → third ≡ bit_xor second (shifted (8 * (n - ((16 * step - 16) + 16))) (bits_of pair))
+    → second ≡ bit_xor first (shifted (8 * (m - ((12 * step - 32) + 16))) (bits_of joined))
+    → first ≡ bit_xor (octets_remainder octets) (shifted (8 * (length octets - ((4 * step - 16) + 16))) (bits_of pair))
+    → joined ≡ drop step before ++ take step pair
+    → n ≡ m → m ≡ length octets → 16 * step ≤ length octets → length pair ≡ 16
+    → bit_xor third (rest_of_pair step (length octets - (11 * step)) pair)
+    ≡ bit_xor (octets_remainder (pair ++ octets)) (rest_of_pair step (length octets - (11 * step - 16)) before)
+pair_folds step before pair octets joined first second third m n folds few many is_third is_second is_first is_joined same_n same_m room sixteen =
     let long : ℕ = length octets in
-    let left : ℕ = 8 * (long - 128) in
+    let width : ℕ = 8 * step in
+    let left : ℕ = 8 * (long - 16 * step) in
+    let there : ℕ = long - (12 * step - 16) in
     let at : ℕ → ℕ = λ k. shifted k (bits_of pair) in
     let r : ℕ = octets_remainder octets in
-    let a : ℕ = at (left + 12 * 64) in
-    let b : ℕ = at (left + 5 * 64) in
+    let a : ℕ = at (left + 12 * width) in
+    let b : ℕ = at (left + 5 * width) in
     let c : ℕ = at left in
-    let p : ℕ = second_word (long - 72) before in
-    let s : ℕ = second_word (long - 88) pair in
-    let f : ℕ = shifted (8 * (long - 80)) (bits_of (take 8 pair)) in
-    let at_first : 8 * (long - (16 + 16)) ≡ left + 12 * 64 = omega arith in
-    let at_second : left + 5 * 64 ≡ 8 * (long - 88) = omega arith in
-    let at_joined : 8 * (m - (64 + 16)) ≡ 8 * (long - 80) = omega (arith, same_m) in
-    let at_third : 8 * (n - (112 + 16)) ≡ left = omega (arith, same_n, same_m) in
-    let all : 8 * long ≡ left + 16 * 64 = omega arith in
+    let p : ℕ = rest_of_pair step (long - (11 * step - 16)) before in
+    let s : ℕ = rest_of_pair step (long - (11 * step)) pair in
+    let f : ℕ = shifted (8 * there) (bits_of (take step pair)) in
+    let at_first : 8 * (long - ((4 * step - 16) + 16)) ≡ left + 12 * width = omega (arith, few, many, room) in
+    let at_second : left + 5 * width ≡ 8 * (long - (11 * step)) = omega (arith, few, many, room) in
+    let at_joined : 8 * (m - ((12 * step - 32) + 16)) ≡ 8 * there = omega (arith, few, many, room, same_m) in
+    let at_third : 8 * (n - ((16 * step - 16) + 16)) ≡ left = omega (arith, few, many, room, same_n, same_m) in
+    let all : 8 * long ≡ left + 16 * width = omega (arith, few, many, room) in
     let words : b ≡ bit_xor f s =
     ap at at_second
-    ∙ ap (λ l. shifted (8 * (long - 88)) (bits_of l)) (sym (take-append-drop 8 pair))
-    ∙ words_apart (long - 88) (long - 80) (take 8 pair) (drop 8 pair) (length-drop 8 pair ∙ omega (arith, sixteen)) (omega arith) in
+    ∙ ap (λ l. shifted (8 * (long - (11 * step))) (bits_of l)) (sym (take-append-drop step pair))
+    ∙ octets_apart_at (long - (11 * step)) there (16 - step) (take step pair) (drop step pair) (length-drop step pair ∙ omega (arith, sixteen)) (omega (arith, few, many, room)) in
     let one : first ≡ bit_xor r a = is_first ∙ ap (λ k. bit_xor r (at k)) at_first in
     let two : second ≡ bit_xor (bit_xor r a) (bit_xor p f) =
     is_second
     ∙ ap₂ bit_xor one
     (ap₂ (λ k l. shifted k (bits_of l)) at_joined is_joined
-    ∙ words_apart (long - 80) (long - 72) (drop 8 before) (take 8 pair) (length-take-le 8 pair (omega (arith, sixteen))) (omega arith)) in
+    ∙ octets_apart_at there (long - (11 * step - 16)) step (drop step before) (take step pair) (length-take-le step pair (omega (arith, many, sixteen))) (omega (arith, few, many, room))) in
     let three : third ≡ bit_xor (bit_xor (bit_xor r a) (bit_xor p f)) c = is_third ∙ ap₂ bit_xor two (ap at at_third) in
     let whole : octets_remainder (pair ++ octets) ≡ bit_xor (bit_xor a (bit_xor (bit_xor f s) c)) r =
     front-apart pair octets long refl
-    ∙ ap (λ k. bit_xor k r) (ap at all ∙ bits-fold 64 left (bits_of pair) folds_64 ∙ ap (λ k. bit_xor a (bit_xor k c)) words) in
+    ∙ ap (λ k. bit_xor k r) (ap at all ∙ bits-fold width left (bits_of pair) folds ∙ ap (λ k. bit_xor a (bit_xor k c)) words) in
     ap (λ k. bit_xor k s) three ∙ regrouped r a p f c s ∙ ap (λ k. bit_xor k p) (sym whole)
 
 -- before the first pair there is none
-pub first_pair : (octets : List ℕ) (n : ℕ) → bit_xor (octets_remainder octets) (second_word n (replicate 16 0)) ≡ octets_remainder octets
-first_pair octets n = zeros_add (octets_remainder octets) (8 * n) 8
+pub first_pair : (step : ℕ) (octets : List ℕ) (n : ℕ) → bit_xor (octets_remainder octets) (rest_of_pair step n (replicate 16 0)) ≡ octets_remainder octets
+first_pair step octets n =
+    ap (λ l. bit_xor (octets_remainder octets) (shifted (8 * n) (bits_of l))) (drop-replicate {X = ℕ} step 16 0)
+    ∙ zeros_add (octets_remainder octets) (8 * n) (16 - step)
 
 -- a pair in the front of the octets
 pair_of_front : (octets : List ℕ) (k : ℕ) → k + 16 ≤ length octets → take 16 (drop k (take (k + 16) octets)) ≡ take 16 (drop k octets)
@@ -198,52 +203,57 @@ pair_of_front octets k room =
     ∙ take_all 16 pair (omega (arith, length-chunk k 16 octets room))
 
 -- the pairs up to the next one are taken away
-pub pair_taken : (octets front behind after before : List ℕ) (i total : ℕ) → 16 * i + 144 ≤ length octets
+pub pair_taken : (step : ℕ) (octets front behind after before : List ℕ) (i total : ℕ) → 4 ≤ step → 16 * i + 16 + 16 * step ≤ length octets
     → front ≡ take (16 * i + 16) octets → behind ≡ drop (16 * i + 16) octets → length after ≡ length behind
-    → bit_xor (octets_remainder after) (second_word (length behind - 88) (take 16 (drop (16 * i) front)))
-    ≡ bit_xor (octets_remainder (take 16 (drop (16 * i) front) ++ behind)) (second_word (length behind - 72) before)
-    → bit_xor (octets_remainder (drop (16 * i) octets)) (second_word (length octets - 16 * i - 88) before) ≡ total
-    → bit_xor (octets_remainder (drop (16 * (i + 1)) (front ++ after))) (second_word (length (front ++ after) - 16 * (i + 1) - 88) (take 16 (drop (16 * i) front))) ≡ total
-pair_taken octets front behind after before i total inside first last as_long taken so_far =
+    → bit_xor (octets_remainder after) (rest_of_pair step (length behind - (11 * step)) (take 16 (drop (16 * i) front)))
+    ≡ bit_xor (octets_remainder (take 16 (drop (16 * i) front) ++ behind)) (rest_of_pair step (length behind - (11 * step - 16)) before)
+    → bit_xor (octets_remainder (drop (16 * i) octets)) (rest_of_pair step (length octets - 16 * i - (11 * step)) before) ≡ total
+    → bit_xor (octets_remainder (drop (16 * (i + 1)) (front ++ after))) (rest_of_pair step (length (front ++ after) - 16 * (i + 1) - (11 * step)) (take 16 (drop (16 * i) front))) ≡ total
+pair_taken step octets front behind after before i total few inside first last as_long taken so_far =
     let k : ℕ = 16 * i in
     let rest : List ℕ = drop k octets in
     let pair : List ℕ = take 16 (drop k front) in
     let next : 16 * (i + 1) ≡ k + 16 = omega arith in
-    let seam : length front ≡ k + 16 = ap length first ∙ length-take-le (k + 16) octets (omega arith) in
+    let seam : length front ≡ k + 16 = ap length first ∙ length-take-le (k + 16) octets (omega (arith, inside)) in
     let left : length behind ≡ length octets - (k + 16) = ap length last ∙ length-drop (k + 16) octets in
-    let all : length (front ++ after) ≡ length octets = length-append front after ∙ omega (arith, seam, as_long, left) in
-    let here : length (front ++ after) - 16 * (i + 1) - 88 ≡ length behind - 88 = omega (arith, all, left) in
-    let there : length behind - 72 ≡ length octets - k - 88 = omega (arith, left) in
-    let pair_is : pair ≡ take 16 rest = ap (λ l. take 16 (drop k l)) first ∙ pair_of_front octets k (omega arith) in
+    let all : length (front ++ after) ≡ length octets = length-append front after ∙ omega (arith, inside, seam, as_long, left) in
+    let here : length (front ++ after) - 16 * (i + 1) - (11 * step) ≡ length behind - (11 * step) = omega (arith, all, left) in
+    let there : length behind - (11 * step - 16) ≡ length octets - k - (11 * step) = omega (arith, few, inside, left) in
+    let pair_is : pair ≡ take 16 rest = ap (λ l. take 16 (drop k l)) first ∙ pair_of_front octets k (omega (arith, inside)) in
     let behind_is : behind ≡ drop 16 rest = last ∙ sym (drop-drop 16 k octets) in
     let whole : pair ++ behind ≡ rest = ap₂ (λ p q. p ++ q) pair_is behind_is ∙ take-append-drop 16 rest in
-    ap₂ (λ l n. bit_xor (octets_remainder l) (second_word n pair)) (ap (λ n. drop n (front ++ after)) next ∙ drop_at front after (k + 16) seam) here
+    ap₂ (λ l n. bit_xor (octets_remainder l) (rest_of_pair step n pair)) (ap (λ n. drop n (front ++ after)) next ∙ drop_at front after (k + 16) seam) here
     ∙ taken
-    ∙ ap₂ (λ l n. bit_xor (octets_remainder l) (second_word n before)) whole there
+    ∙ ap₂ (λ l n. bit_xor (octets_remainder l) (rest_of_pair step n before)) whole there
     ∙ so_far
 
--- the second word of the last pair is added
-pub last_added : (octets front left after before joined : List ℕ) (i n total : ℕ) → n ≡ length octets → 128 ≤ n → 16 * i + 128 ≡ n
-    → front ≡ take (length octets - 128) octets → left ≡ drop (length octets - 128) octets
-    → octets_remainder after ≡ bit_xor (octets_remainder left) (shifted (8 * (length left - (80 + 16))) (bits_of joined))
-    → joined ≡ drop 8 before ++ take 8 (replicate 16 0)
-    → bit_xor (octets_remainder (drop (16 * i) octets)) (second_word (length octets - 16 * i - 88) before) ≡ total
-    → octets_remainder (drop (n - 128) (front ++ after)) ≡ total
-last_added octets front left after before joined i n total as_long room at first last added is_joined so_far =
-    let k : ℕ = n - 128 in
-    let m : ℕ = length octets - 128 in
-    let seam : length front ≡ k = ap length first ∙ length-take-le m octets (omega (arith, as_long)) ∙ omega (arith, as_long) in
-    let behind : 8 * (length left - (80 + 16)) ≡ 8 * 32 = omega (arith, ap length last, length-drop m octets, as_long) in
-    let start : m ≡ 16 * i = omega (arith, as_long) in
-    let end : 40 ≡ length octets - 16 * i - 88 = omega (arith, as_long) in
-    let word : ℕ = second_word 40 before in
-    let one : shifted (8 * (length left - (80 + 16))) (bits_of joined) ≡ word =
-    ap₂ (λ j l. shifted j (bits_of l)) behind is_joined
-    ∙ words_apart 32 40 (drop 8 before) (replicate 8 0) refl refl
-    ∙ zeros_add word (8 * 32) 8 in
+-- the rest of the last pair is added
+pub last_added : (step : ℕ) (octets front left after before joined : List ℕ) (i n total : ℕ) → 4 ≤ step → step ≤ 8
+    → n ≡ length octets → 16 * step ≤ n → 16 * i + 16 * step ≡ n
+    → front ≡ take (length octets - 16 * step) octets → left ≡ drop (length octets - 16 * step) octets
+    → octets_remainder after ≡ bit_xor (octets_remainder left) (shifted (8 * (length left - ((12 * step - 16) + 16))) (bits_of joined))
+    → joined ≡ drop step before ++ take step (replicate 16 0)
+    → bit_xor (octets_remainder (drop (16 * i) octets)) (rest_of_pair step (length octets - 16 * i - (11 * step)) before) ≡ total
+    → octets_remainder (drop (n - 16 * step) (front ++ after)) ≡ total
+last_added step octets front left after before joined i n total few many as_long room at first last added is_joined so_far =
+    let k : ℕ = n - 16 * step in
+    let m : ℕ = length octets - 16 * step in
+    let start : m ≡ 16 * i = omega (arith, as_long, at) in
+    let first_long : length front ≡ m = ap length first ∙ length-take-le m octets (omega (arith, as_long)) in
+    let seam : length front ≡ k = omega (arith, first_long, as_long) in
+    let left_long : length left ≡ length octets - m = ap length last ∙ length-drop m octets in
+    let behind : 8 * (length left - ((12 * step - 16) + 16)) ≡ 8 * (4 * step) = omega (arith, few, room, left_long, as_long) in
+    let end : 5 * step ≡ length octets - 16 * i - (11 * step) = omega (arith, as_long, at) in
+    let rest : ℕ = rest_of_pair step (5 * step) before in
+    let further : 5 * step ≡ step + 4 * step = omega arith in
+    let zeros : take step (replicate 16 0) ≡ replicate step 0 = take-replicate {X = ℕ} step 16 0 (omega (arith, many)) in
+    let one : shifted (8 * (length left - ((12 * step - 16) + 16))) (bits_of joined) ≡ rest =
+    ap₂ (λ j l. shifted j (bits_of l)) behind (is_joined ∙ ap (λ l. drop step before ++ l) zeros)
+    ∙ octets_apart_at (4 * step) (5 * step) step (drop step before) (replicate step 0) (length-replicate {A = ℕ} step 0) further
+    ∙ zeros_add rest (8 * (4 * step)) step in
     ap octets_remainder (drop_at front after k seam)
     ∙ added
-    ∙ ap₂ (λ l x. bit_xor (octets_remainder l) x) (last ∙ ap (λ j. drop j octets) start) (one ∙ ap (λ j. second_word j before) end)
+    ∙ ap₂ (λ l x. bit_xor (octets_remainder l) x) (last ∙ ap (λ j. drop j octets) start) (one ∙ ap (λ j. rest_of_pair step j before) end)
     ∙ so_far
 
 -- a pair has 16 octets
@@ -314,6 +324,12 @@ appended held folded front back old block is_held same as_long is_old is_block f
     held_last 128 held folded (front ++ back) is_held same (length-append front back ∙ omega (arith, first, last, ap length is_old, ap length is_block)) as_long
     ∙ ap (remainder_from 0) (bits_of-append front back ∙ ap₂ (λ p q. bits_of p ++ bits_of q) is_old is_block)
     ∙ remainder_from-append 0 (bits_of old) (bits_of block)
+
+-- the second half
+pub second_half : (half : ℕ) (old new : List ℕ) → length old ≡ half + half → length new ≡ half + half → take half (drop half new) ≡ drop (length old - half) new
+second_half half old new long as_long =
+    let front : half ≡ length old - half = omega (arith, long) in
+    take_all half (drop half new) (omega (arith, length-drop half new, as_long)) ∙ ap (λ n. drop n new) front
 
 -- where no block is left, no octet is
 pub blocks_done : (held rest : List ℕ) → length rest % 128 ≡ 0 → length rest < 128 → remainder_from (octets_remainder held) (bits_of rest) ≡ octets_remainder held

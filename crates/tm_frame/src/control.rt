@@ -4,7 +4,7 @@ ghost use Rattle.std.specs.Prelude.{◌≡◌, ◌≤◌, ◌<◌, ◌+◌, ◌-
 ghost use Rattle.tm_bits.specs.Bits.{bits_of, low_bits};
 ghost use Rattle.tm_frame.specs.ErrorControl.{error_control_of};
 ghost use Rattle.tm_frame.specs.Fault.{control_holds};
-ghost use Rattle.tm_frame.specs.code.Folding.{Folds, bits_of_words, octets_remainder, remainder_from, second_word, shifted, words_remainder};
+ghost use Rattle.tm_frame.specs.code.Folding.{Folds, bits_of_words, octets_remainder, remainder_from, rest_of_pair, shifted, words_remainder};
 
 use crate::table::table_entry;
 use byteorder::{BigEndian, ByteOrder};
@@ -73,7 +73,7 @@ fn shift_octet(register: u16, octet: u8) -> u16
 // 128 octets with the remainder of the first octets. Zeros in front change no remainder, and that of 0x84CF
 // is a register of ones.
 #[inline(always)]
-#[tactic(auto, using(crate::proofs::FoldPairs::begun))]
+#[tactic(auto, using(crate::proofs::FoldPairs::begun, crate::proofs::Fold::folds_64))]
 fn begin(held: &mut [u8; 128], first: &[u8])
     requires { length first.now < 128 }
     ensures { octets_remainder held.new ≡ remainder_from 65535 (bits_of first.now) }
@@ -83,13 +83,13 @@ fn begin(held: &mut [u8; 128], first: &[u8])
     let (preset, back) = behind.split_at_mut(2);
     preset.copy_from_slice(&[0x84, 0xCF]);
     back.copy_from_slice(first);
-    fold_pairs(&mut octets);
+    fold_pairs(&mut octets, 8);
     copy(held, &octets[16..]);
 }
 
 // Octets with the remainder of those held and a block behind them.
 #[inline(always)]
-#[tactic(auto, using(crate::proofs::FoldPairs::appended))]
+#[tactic(auto, using(crate::proofs::FoldPairs::appended, crate::proofs::Fold::folds_64))]
 fn append_block(held: &mut [u8; 128], block: &[u8])
     requires { length block.now ≡ 128 }
     ensures { octets_remainder held.new ≡ remainder_from (octets_remainder held.old) (bits_of block.now) }
@@ -98,23 +98,24 @@ fn append_block(held: &mut [u8; 128], block: &[u8])
     let (front, back) = octets.split_at_mut(128);
     copy(front, held);
     copy(back, block);
-    fold_pairs(&mut octets);
+    fold_pairs(&mut octets, 8);
     copy(held, &octets[128..]);
 }
 
-// The remainder of the octets: as words they are folded twice more, and the last four are divided. Apart from its caller, which
-// gives a copy: else the compiler would keep the octets held as words, and so leave the vectors in each block.
+// The remainder of the octets: pairs and then words are folded once more, and the last four words are divided. Apart from its caller, which
+// gives a copy: else the compiler would keep the octets held in memory or as words.
 #[inline(never)]
 #[tactic(auto, using(crate::proofs::Fold::folds_32, crate::proofs::Fold::folds_16))]
 fn finish(held: &[u8; 128]) -> u16
     ensures { result ≡ octets_remainder held.now }
 {
-    let mut words = [0; 16];
-    fill(&mut words, held);
-    fold(&mut words, 32);
-    let (_, half) = words.split_at_mut(8);
-    fold(half, 16);
-    shift_words(&half[4..])
+    let mut octets = [0; 128];
+    copy(&mut octets, held);
+    fold_pairs(&mut octets, 4);
+    let mut words = [0; 8];
+    fill(&mut words, &octets[64..]);
+    fold(&mut words, 16);
+    shift_words(&words[4..])
 }
 
 // The octets that are given. Pair by pair, since `copy_from_slice` asks where slices lie, and so would keep
@@ -131,57 +132,75 @@ fn copy(octets: &mut [u8], from: &[u8])
     }
 }
 
-// All pairs of words are taken away from the front, until 128 octets are left. A vector of the processor holds a pair. Behind the
-// last pair its second word is still to be added.
+// All pairs of words are taken away from the front, until 16 times `step` octets are left. A vector of the processor holds a pair. Behind
+// the last pair its rest is still to be added.
 #[inline(always)]
 #[tactic(auto, using(crate::proofs::FoldPairs::pair_by_pair))]
-fn fold_pairs(octets: &mut [u8])
-    requires room { 128 ≤ length octets.old }
+fn fold_pairs(octets: &mut [u8], step: usize)
+    requires folds { Folds (8 * step) }
+    requires few { 4 ≤ step }
+    requires many { step ≤ 8 }
+    requires quarters { step % 4 ≡ 0 }
+    requires room { 16 * step ≤ length octets.old }
     requires whole { length octets.old % 16 ≡ 0 }
     ensures len { length octets.new ≡ length octets.old }
-    ensures same { octets_remainder (drop (length octets.old - 128) octets.new) ≡ octets_remainder octets.old }
+    ensures same { octets_remainder (drop (length octets.old - 16 * step) octets.new) ≡ octets_remainder octets.old }
 {
     let none = u8x16::splat(0);
     let mut before = none;
-    for i in 0..octets.len() / 16 - 8 {
+    for i in 0..octets.len() / 16 - step {
         let (front, behind) = octets.split_at_mut(16 * i + 16);
         let pair = u8x16::from_slice(&front[16 * i..]);
-        fold_pair(behind, before, pair);
+        fold_pair(behind, step, before, pair);
         before = pair;
     }
-    let (_, left) = octets.split_at_mut(octets.len() - 128);
-    add_pair(left, 80, words_across(before, none));
+    let (_, left) = octets.split_at_mut(octets.len() - 16 * step);
+    add_pair(left, 12 * step - 16, pair_across(step, before, none));
 }
 
-// The pair before these octets is taken away: it is added 4, 11 and 16 words further on. These are 32, 88 and 128 octets, less its own
-// 16. Eleven words are five pairs and a half. There its first word is added beside the second one of the pair before, and its own
-// second word waits for the next pair.
+// The pair before these octets is taken away: it is added 4, 11 and 16 times `step` octets further on, less its own 16. Eleven times
+// `step` are no whole pairs. There its first `step` octets are added beside the others of the pair before, and its own others wait
+// for the next pair.
 #[inline(always)]
-fn fold_pair(octets: &mut [u8], before: u8x16, pair: u8x16)
-    requires room { 128 ≤ length octets.old }
+fn fold_pair(octets: &mut [u8], step: usize, before: u8x16, pair: u8x16)
+    requires folds { Folds (8 * step) }
+    requires few { 4 ≤ step }
+    requires many { step ≤ 8 }
+    requires quarters { step % 4 ≡ 0 }
+    requires room { 16 * step ≤ length octets.old }
     requires both { length before ≡ 16 }
     requires sixteen { length pair ≡ 16 }
     ensures len { length octets.new ≡ length octets.old }
-    ensures same { bit_xor (octets_remainder octets.new) (second_word (length octets.old - 88) pair)
-        ≡ bit_xor (octets_remainder (pair ++ octets.old)) (second_word (length octets.old - 72) before) }
+    ensures same { bit_xor (octets_remainder octets.new) (rest_of_pair step (length octets.old - (11 * step)) pair)
+        ≡ bit_xor (octets_remainder (pair ++ octets.old)) (rest_of_pair step (length octets.old - (11 * step - 16)) before) }
 {
-    add_pair(octets, 16, pair);
-    add_pair(octets, 64, words_across(before, pair));
-    add_pair(octets, 112, pair);
+    add_pair(octets, 4 * step - 16, pair);
+    add_pair(octets, 12 * step - 32, pair_across(step, before, pair));
+    add_pair(octets, 16 * step - 16, pair);
 }
 
-// The second word of a pair, and the first of the next.
+// All but the first octets of a pair, 8 or 4, and as many of the next.
 #[inline(always)]
-fn words_across(pair: u8x16, next: u8x16) -> u8x16
+fn pair_across(step: usize, pair: u8x16, next: u8x16) -> u8x16
+    requires few { 4 ≤ step }
+    requires many { step ≤ 8 }
+    requires quarters { step % 4 ≡ 0 }
     requires both { length pair ≡ 16 }
     requires sixteen { length next ≡ 16 }
     ensures len { length result ≡ 16 }
-    ensures words { result ≡ drop 8 pair ++ take 8 next }
+    ensures octets { result ≡ drop step pair ++ take step next }
 {
-    pair.shuffle(
-        next,
-        [8, 9, 10, 11, 12, 13, 14, 15, 16, 17, 18, 19, 20, 21, 22, 23],
-    )
+    if step == 8 {
+        pair.shuffle(
+            next,
+            [8, 9, 10, 11, 12, 13, 14, 15, 16, 17, 18, 19, 20, 21, 22, 23],
+        )
+    } else {
+        pair.shuffle(
+            next,
+            [4, 5, 6, 7, 8, 9, 10, 11, 12, 13, 14, 15, 16, 17, 18, 19],
+        )
+    }
 }
 
 // A pair is added without carries to the octets at a place.

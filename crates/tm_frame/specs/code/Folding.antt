@@ -16,9 +16,9 @@ shifted n bits = remainder_from 0 (bits ++ replicate n false)
 abbrev pub octets_remainder : List ℕ → ℕ
 octets_remainder octets = remainder_from 0 (bits_of octets)
 
--- what the second word of a pair of words adds to the remainder, where n octets stand behind this word
-abbrev pub second_word : ℕ → List ℕ → ℕ
-second_word n pair = shifted (8 * n) (bits_of (drop 8 pair))
+-- what all but the first octets of a pair of words, so many, add to the remainder, where n octets stand behind them
+abbrev pub rest_of_pair : ℕ → ℕ → List ℕ → ℕ
+rest_of_pair first n pair = shifted (8 * n) (bits_of (drop first pair))
 
 -- A 1 may be taken away if it is added 4, 11 and 16 times `width` bits further on. For modulo the generator, x to the power of 16
 -- times `width` is a sum: that of x to the powers of 12 times `width`, 5 times `width`, and 0.

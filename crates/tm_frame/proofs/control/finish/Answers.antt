@@ -1,0 +1,14 @@
+use Rattle.std.proofs.Common.{◌∙◌, ap, arith}
+use Rattle.tm_frame.specs.code.Folding.{octets_remainder, remainder_from, words_remainder}
+use Rattle.tm_frame.proofs.FoldPairs.{second_half}
+use Rattle.tm_frame.proofs.control.finish.Goals as goal
+
+pub returns : goal.returns
+returns c =
+    c.shift_words.ensures
+    ∙ ap words_remainder (second_half 4 c.fill.new.words c.fold.new.words (omega (arith, c.fill.auto.words)) (omega (arith, c.fold.auto.words)))
+    ∙ c.fold.ensures.same
+    ∙ ap (remainder_from 0) c.fill.ensures.same
+    ∙ ap octets_remainder (second_half 64 c.copy.new.octets c.fold_pairs.new.octets (omega (arith, c.copy.auto.octets)) (omega (arith, c.fold_pairs.auto.octets)))
+    ∙ c.fold_pairs.ensures.same
+    ∙ ap octets_remainder c.copy.ensures

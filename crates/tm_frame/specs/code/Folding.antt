@@ -16,7 +16,7 @@ shifted n bits = remainder_from 0 (bits ++ replicate n false)
 abbrev pub octets_remainder : List ℕ → ℕ
 octets_remainder octets = remainder_from 0 (bits_of octets)
 
--- what all but the first octets of a pair of words, so many, add to the remainder, where n octets stand behind them
+-- what a pair of words without its first octets adds to the remainder, where n octets follow it
 abbrev pub rest_of_pair : ℕ → ℕ → List ℕ → ℕ
 rest_of_pair first n pair = shifted (8 * n) (bits_of (drop first pair))
 

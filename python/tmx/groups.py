@@ -10,9 +10,9 @@ from dataclasses import dataclass, field
 from .arguments import APPLICATIONS, CHANNELS, Number, Numbers, number, numbers
 from .definition import Name
 from .errors import DisagreementError
-from .leads import whole_packets
-from .lines import Broken, Group, Line, Stray, read_lines
+from .lines import Broken, Group, Line, Packet, Stray, read_lines
 from .notes import numbered, warn, warn_of_nothing
+from .packets import all_packets
 from .progress import Progress
 from .runs import Command, Runs, running, single_lines
 from .settings import Settings
@@ -21,7 +21,6 @@ from .source import Source
 LISTED, REPORTED = 0, 1  # the numbers of the two runs
 HEADER = 6  # octets of a packet's primary header
 IDLE = 2047  # the application of idle packets, which are in no group
-CONTINUATION, FIRST, LAST = range(3)  # sequence flags
 NOTES: tuple[type[Line], ...] = (Group, Broken, Stray)
 WORDS = tuple(f"{it.word} " for it in NOTES)  # how their lines begin
 
@@ -69,17 +68,16 @@ class OpenGroups:
     def is_chosen(self, channel: int, apid: int) -> bool:
         return (self.apids is None or apid in self.apids) and (self.channels is None or channel in self.channels)
 
-    def take(self, channel: int, apid: int, packet: bytes) -> None:
+    def take(self, packet: Packet) -> None:
         """Holds a packet of a chosen application, where it may be one of a group that becomes whole."""
-        key, flags, count = (channel, apid), packet[2] >> 6, int.from_bytes(packet[2:4]) & 0x3FFF
-        has_secondary = packet[0] & 0x08
-        data = packet[HEADER + self.secondary_header if has_secondary else HEADER :]
-        self.came = self.came or flags <= LAST
-        if flags == FIRST:
+        key, flags, count = (packet.channel, packet.apid), packet.flags, packet.count
+        data = packet.octets[HEADER + (self.secondary_header if packet.secondary else 0) :]
+        self.came = self.came or flags != "unsegmented"
+        if flags == "first":
             self.segments[key] = [(count, data)]
             return
         held = self.segments.get(key)
-        if held is not None and flags <= LAST and (held[-1][0] + 1) % 16384 == count:
+        if held is not None and flags != "unsegmented" and (held[-1][0] + 1) % 16384 == count:
             held.append((count, data))
         else:
             self.segments.pop(key, None)
@@ -120,15 +118,13 @@ def joined(runs: Runs, wanted: OpenGroups) -> Iterator[JoinedGroup | Broken | St
     """What the notes of the report say, in their order.  At each last segment its note is waited for."""
     lines = (it for it in single_lines(runs, REPORTED) if it.startswith(WORDS))
     notes: Iterator[Note] = (note for line in lines for note in read_lines(line, NOTES))
-    for record, channel, packet in whole_packets(runs, LISTED):
-        apid, flags = int.from_bytes(packet[:2]) & 0x7FF, packet[2] >> 6
-        if apid == IDLE:
+    for packet in all_packets(runs, LISTED):
+        if packet.apid == IDLE:
             continue
-        if wanted.is_chosen(channel, apid):
-            wanted.take(channel, apid, packet)
-        if flags == LAST:
-            place = record, channel, apid, int.from_bytes(packet[2:4]) & 0x3FFF
-            yield from until(notes, place, wanted)
+        if wanted.is_chosen(packet.channel, packet.apid):
+            wanted.take(packet)
+        if packet.flags == "last":
+            yield from until(notes, (packet.record, packet.channel, packet.apid, packet.count), wanted)
     for note in notes:
         if isinstance(note, Group):
             raise DisagreementError(f"no packet completes the group of the report: {note}")

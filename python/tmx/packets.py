@@ -82,21 +82,25 @@ def chosen(apid: Numbers, channel: Numbers) -> Chosen:
     return Chosen(numbers("apid", apid, APPLICATIONS), numbers("channel", channel, CHANNELS))
 
 
-def blocks_of(runs: Runs, missing: Missing) -> Iterator[list[Packet]]:
+def all_packets(runs: Runs, number: int) -> Iterator[Packet]:
+    """The packets that the run of this number gives, one by one.  Raises what `blocks_of` raises."""
+    return (packet for block in blocks_of(runs, Missing(Chosen()), number) for packet in block)
+
+
+def blocks_of(runs: Runs, missing: Missing, number: int = 0) -> Iterator[list[Packet]]:
     """The chosen packets that a run gives, some at a time.  What they are leaves `missing`.
 
-    Raises DisagreementError where the last one isn't whole.
+    Raises the run's error where it ends by one, and DisagreementError where its last packet isn't whole.
     """
     rest = b""
-    while octets := runs.chunk(0):
+    while octets := runs.chunk(number):
         block = rest + octets
         packets, end = packets_in(block, missing)
         missing.all = missing.all and not end
         rest = block[end:]
         yield packets
-    runs.finish()
     if rest:
-        raise not_whole(rest)
+        raise runs.runs[number].fault() or not_whole(rest)
 
 
 def packets_in(block: bytes, missing: Missing) -> tuple[list[Packet], int]:

@@ -9,7 +9,7 @@ from typing import TYPE_CHECKING
 from .arrays import objects
 from .definition import Column, Name, last_bit
 from .errors import ColumnError, DisagreementError
-from .leads import whole_packets
+from .packets import all_packets
 from .runs import Command, Runs
 
 if TYPE_CHECKING:
@@ -39,9 +39,9 @@ class Rests:
         bits = last_bit(definition)
         begin = -(-bits // 8)
         self.found = (
-            (record, channel, int.from_bytes(packet[2:4]) & 0x3FFF, packet[begin:])
-            for record, channel, packet in whole_packets(runs, LISTED)
-            if int.from_bytes(packet[:2]) & 0x7FF == self.apid and 8 * len(packet) >= bits and self.has(channel)
+            (it.record, it.channel, it.count, it.octets[begin:])
+            for it in all_packets(runs, LISTED)
+            if it.apid == self.apid and 8 * len(it.octets) >= bits and self.has(it.channel)
         )
 
     def has(self, channel: int) -> bool:

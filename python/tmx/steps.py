@@ -83,6 +83,7 @@ class Job:
         with running(self.source, self.settings, self.command(kept), progress=self.progress) as runs:
             for packets in blocks_of(runs, missing):
                 yield from packets
+            runs.finish()
         self.warn(runs, missing)
 
     def array(self) -> PacketArray:

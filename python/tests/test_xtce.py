@@ -372,6 +372,23 @@ class Files(TestCase):
         self.refused(f'<?xml version="1.0"?>\n<!-- a -->\n{doctype}{whole}', "it has a DOCTYPE")
         self.raises(FileNotFoundError, None, tmx.xtce.read, "none.xml")
 
+    def test_paths_that_two_elements_have(self) -> None:
+        parameter = '<Parameter name="A" parameterTypeRef="T"/>'
+        found = written(one(BYTE).replace(parameter, parameter * 2))
+        self.assertEqual(found.refusals(), {"/Sat/C": "/Sat/C: two elements have the path /Sat/A"})
+        twice = written(one(BYTE).replace(PACKET, PACKET * 2))
+        said = {"/Sat/PACKET: two elements have this path", "/Sat/C: two elements have the path /Sat/PACKET"}
+        self.assertEqual(set(twice.refusals().values()), said)
+
+    def test_nesting(self) -> None:
+        """Systems in systems, and containers on containers."""
+        inner = "".join(container(f"C{it}", "", base=f"C{it - 1}" if it else "PACKET") for it in range(3000))
+        low = '<SpaceSystem name="Low">' * 5000 + "</SpaceSystem>" * 5000
+        found = written(system("", "", inner, low))
+        self.assertEqual(len(found.columns("C1")), 7)
+        error = self.raises(tmx.XtceError, None, found.columns, "C2999")
+        self.assertEqual(error.reason, "its containers are nested too deep")
+
     def test_entities_that_grow(self) -> None:
         grown = "".join(f'<!ENTITY e{it + 1} "{f"&e{it};" * 10}">' for it in range(12))
         begin = time.monotonic()

@@ -31,7 +31,11 @@ def long_values() -> Iterator[None]:
 
 @dataclass(frozen=True, slots=True)
 class Column:
-    """A column of a table: its name, its type (`uint`, `int`, `float` or `str`) and its bits."""
+    """A column of a table: its name, its type and the bits of its raw value.
+
+    The type is `uint`, `int`, `float` or `str`.  What the package makes of these is `label`, `bool`, `text`, `time`, `array` or
+    `rest`; a calibrated value is `float`.
+    """
 
     name: str
     type: str

@@ -44,7 +44,7 @@ ORDERS: Mapping[str, Callable[[Any, Any], Any]] = {
 def read(path: str | os.PathLike[str]) -> "System":
     """What an XTCE file says.  Raises XtceError where it is none, has a DOCTYPE, or includes other files; and OSError."""
     index = Index()
-    index.add(read_root(path), "")
+    index.add(read_root(path))
     return System(index)
 
 
@@ -117,6 +117,8 @@ class System:
 
     def path(self, container: str) -> str:
         """The path of a container.  Raises XtceError where there is none of this name, or several."""
+        if container in self.index.twice:
+            raise XtceError(container, "two elements have this path")
         if container in self.index.containers:
             return container
         found = [it for it in self.index.containers if it.rpartition("/")[2] == container]

@@ -120,21 +120,30 @@ def refuse_doctype(file: IO[bytes], name: str) -> None:
 
 @dataclass
 class Index:
-    """The elements that a file defines, by their paths: `/System/Part/NAME`."""
+    """The elements that a file defines, by their paths: `/System/Part/NAME`.  `twice` are paths that two of a kind have."""
 
     types: dict[str, Element] = field(default_factory=dict)
     parameters: dict[str, Element] = field(default_factory=dict)
     containers: dict[str, Element] = field(default_factory=dict)
+    twice: set[str] = field(default_factory=set)
 
-    def add(self, system: Element, above: str) -> None:
+    def add(self, root: Element) -> None:
         """Adds what a SpaceSystem defines, and the systems in it."""
-        path = f"{above}/{system.get('name', '')}"
-        for group in below(child(system, "TelemetryMetaData")):
-            if (kind := SETS.get(local(group))) is not None:
-                found: dict[str, Element] = getattr(self, kind)
-                found.update((f"{path}/{it.get('name')}", it) for it in group if it.get("name"))
-        for inner in children(system, "SpaceSystem"):
-            self.add(inner, path)
+        systems = [(root, "")]
+        while systems:
+            system, above = systems.pop()
+            path = f"{above}/{system.get('name', '')}"
+            for group in below(child(system, "TelemetryMetaData")):
+                if (kind := SETS.get(local(group))) is not None:
+                    self.add_all(getattr(self, kind), group, path)
+            systems += reversed([(it, path) for it in children(system, "SpaceSystem")])
+
+    def add_all(self, found: dict[str, Element], group: Element, system: str) -> None:
+        for it in group:
+            if it.get("name"):
+                path = f"{system}/{it.get('name')}"
+                self.twice |= {path} if path in found else set()
+                found[path] = it
 
     def find(self, kind: str, reference: str | None, of: str) -> str:
         """The path that a reference from the element of a path means: in its system, or in the nearest one around that has it.
@@ -146,10 +155,13 @@ class Index:
         system = of.rpartition("/")[0]
         while not said.startswith("/"):
             if (path := joined(system, said)) in found:
-                return path
+                said = path
+                break
             if not system:
                 break
             system = system.rpartition("/")[0]
+        if said in self.twice:
+            raise XtceError(of, f"two elements have the path {said}")
         if said in found:
             return said
         raise XtceError(of, f"there is no {WHAT[kind]} {said!r}")

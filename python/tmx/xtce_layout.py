@@ -40,7 +40,10 @@ class Layout:
 
 def layout(index: Index, path: str) -> Layout:
     """The layout of a container.  Raises XtceError where something has no fixed place, or isn't read."""
-    return Walk(index).whole(path)
+    try:
+        return Walk(index).whole(path)
+    except RecursionError:
+        raise XtceError(path, "its containers are nested too deep") from None
 
 
 class Walk:

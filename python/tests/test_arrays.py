@@ -113,6 +113,7 @@ class AsArrays(Columns, WithModules):
     def test_shapes(self) -> None:
         found = rows_of([bytes(range(8))] * 3, "S,str,64\n", arrays={"S": ">u2"})
         self.assertEqual((found["S"].shape, found["S"].dtype), ((3, 4), ">u2"))
+        self.assertEqual(found["S"].strides, (24, 2))  # it lies in the rows, of 16 octets and these
         self.assertEqual(rows_of([bytes(3)], "S,str,24\n", arrays={"S": "uint12"})["S"].dtype, "uint16")
         self.assertEqual(rows_of([bytes(3)], "S,str,24\n", arrays={"S": "int7"})["S"].dtype, "int8")
 

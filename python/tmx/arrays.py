@@ -84,16 +84,15 @@ def single_columns(fields: "Fields") -> dict[str, Any]:
     return found
 
 
-def array_of(values: Sequence[bytes], form: Form, count: int) -> Any:
-    """The values of each row, as a row of a two-dimensional array; without numpy as a tuple."""
+def array_of(values: Any, form: Form, count: int) -> Any:
+    """The values of each row, as a row of a two-dimensional array, which lies in the rows; without numpy as a tuple."""
     numpy = module("numpy")
     if numpy is None:
         return [unpacked(it, form, count) if form.is_packed else plain(it, form, count) for it in values]
-    octets = b"".join(values)
     if not form.is_packed:
-        return numpy.frombuffer(octets, form.said).reshape(len(values), count)
+        return values.view((form.said, (count,)))
     width = next(it for it in (8, 16, 32, 64) if form.bits <= it)
-    each = numpy.frombuffer(octets, "u1").reshape(len(values), -(-count * form.bits // 8))
+    each = values.view(("u1", (values.dtype.itemsize,)))
     bits = numpy.unpackbits(each, axis=1)[:, : count * form.bits]
     padded = numpy.zeros((len(values), count, width), "u1")
     padded[:, :, width - form.bits :] = bits.reshape(len(values), count, form.bits)

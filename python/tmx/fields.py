@@ -239,7 +239,7 @@ def read_tables(
             first = runs.chunk(0)
             if not first and (fault := runs.runs[0].fault()):
                 raise fault
-            kinds = Kinds(columns_of(table.definition), table.encoding)
+            kinds = Kinds(columns_of(table.definition), table.encoding, table.arrays)
             length = kinds.places()[-1]
             if table.rest is not None:
                 table.rest.read(runs, table.definition)

@@ -4,7 +4,7 @@ import codecs
 import importlib
 import importlib.util
 import struct
-from collections.abc import Iterable, Sequence
+from collections.abc import Collection, Iterable, Sequence
 from dataclasses import dataclass
 from itertools import accumulate
 from typing import Any
@@ -55,10 +55,14 @@ def encoding_of(name: str | None, errors: str, octets: Iterable[str] = ()) -> En
 
 @dataclass(frozen=True)
 class Kinds:
-    """The columns that rows have, those of tmx itself first, and how their texts are decoded; without an encoding they stay octets."""
+    """The columns that rows have, those of tmx itself first, and how their texts are decoded; without an encoding they stay octets.
+
+    `arrays` are the columns that become arrays.
+    """
 
     columns: Sequence[Column]
     encoding: Encoding | None = None
+    arrays: Collection[str] = ()
 
     def places(self) -> list[int]:
         """Where each column begins in a row, and last how many octets a row has."""
@@ -115,7 +119,7 @@ def read_as_arrays(numpy: Any, kinds: Kinds, rows: bytearray, first: int) -> lis
 
 
 def array_of(numpy: Any, values: Any, kinds: Kinds, column: Column, first: int) -> Any:
-    if column.type != "str":
+    if column.type != "str" or column.name in kinds.arrays:
         return values
     found = numpy.empty(len(values), object)  # numpy's own types for octets take zeros off their ends
     found[:] = kinds.texts(values.tolist(), column, first)

@@ -9,7 +9,8 @@ from typing import Any, NamedTuple
 
 from .checkpoints import Name
 from .errors import CheckpointError, Error, FileError, LibraryMissingError, OutOfMemoryError, RunError, SettingsError
-from .lines import REPORT, Packet, packet, read_lines, read_packet_lines
+from .lines import REPORT, Packet, read_lines
+from .packets import packets_of
 from .recording import Item
 from .settings import Settings
 
@@ -131,14 +132,9 @@ class Engine:
 
     def step(self, octets: bytes, last: bool) -> Given:
         left = self.left + octets
-        listed, extracted = self.call(PACKETS, left, last), self.call(EXTRACT, left, last)
-        self.left, self.checkpoint, self.records = left[listed.used :], listed.checkpoint, 0 if last else listed.records
-        packets, at = [], 0
-        for values in read_packet_lines(listed.out.decode()):
-            end = at + int(values[-1])
-            packets.append(packet(values, extracted.out[at:end]))
-            at = end
-        return Given(packets, list(read_lines(listed.report.decode(), REPORT)))
+        given = self.call(BINARY_PACKETS, left, last)
+        self.left, self.checkpoint, self.records = left[given.used :], given.checkpoint, 0 if last else given.records
+        return Given(packets_of(given.out), list(read_lines(given.report.decode(), REPORT)))
 
     def call(self, command: int, octets: bytes, last: bool) -> Called:
         """One call, made again with larger rooms where they were too small."""

@@ -470,8 +470,3 @@ def read_packet_lines(text: str) -> list[PacketValues]:
     if len(found) != text.count("\n"):
         raise unknown_line(next(it for it in text.splitlines() if not PACKET_LINE.fullmatch(it)))
     return found
-
-
-def packet(values: PacketValues, octets: bytes) -> Packet:
-    record, channel, first, place, *_ = values
-    return read_packet((int(record), int(first), int(place), int(channel), len(octets)), octets)

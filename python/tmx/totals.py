@@ -3,6 +3,7 @@
 import re
 from collections import Counter, deque
 from dataclasses import dataclass, field
+from functools import partial
 from typing import Any
 
 from .lines import unknown_line
@@ -62,7 +63,7 @@ class Totals:
     reported: deque[tuple[str, str]] = field(default_factory=lambda: deque(maxlen=REPORTED))
     lines: int = 0
     last_good: float | None = None
-    numpy: Any = field(default_factory=lambda: module("numpy"))
+    numpy: Any = field(default_factory=partial(module, "numpy"))
 
     @property
     def bad(self) -> int:

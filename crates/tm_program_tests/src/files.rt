@@ -8,7 +8,10 @@ use tm_program::{ProgramOutcome, RunFault, ToolFault, fault_line, run};
 use tm_settings::{Key, SettingsFault};
 
 // Does what these arguments ask for, and forgets the report.
-fn run_with(rt: &HostRuntime, arguments: &[&str]) -> Result<Result<ProgramOutcome, ToolFault>, Fail> {
+fn run_with(
+    rt: &HostRuntime,
+    arguments: &[&str],
+) -> Result<Result<ProgramOutcome, ToolFault>, Fail> {
     let alloc = rt.alloc();
     let arguments = owned_strings(alloc, arguments).ok_or("words")?;
     Ok(run(rt, arguments, Vec::new(alloc)))

@@ -6,7 +6,7 @@ ghost use Rattle.tm_split_files.specs.ShelfFaults.{is_out_of_memory};
 ghost use Rattle.tm_split_files.specs.Shelves.{HoldsNone, HoldsSame, IsAdded, IsEmptied, IsKeptOrEmptied, IsRefused};
 
 use crate::files::{Folder, HeldFiles, ShelfFault};
-use crate::refusals::{RefusedPut, Refusals};
+use crate::refusals::{Refusals, RefusedPut};
 use std::alloc::AllocError;
 use std::marker::Model;
 use std::rt::Files;

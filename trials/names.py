@@ -36,9 +36,8 @@ FUNCTION = re.compile(r"^\s*(?:pub(?:\(\w+\))? )?(?:const )?(?:unsafe )?fn (\w+)
 # Each crate that runs out of memory says so by its own type.
 SHARED_TYPES = {"NoMemory"}
 
-# What contracts see of these types has their names. The next two still name a type, and in definitions another thing.
+# What contracts see of these types has their names.
 SEEN_TYPES = {"Item", "Rules", "Tail"}
-OTHER_THINGS = {"Counts", "Reading"}
 FOR_TESTS = ("tm_memory", "tm_tests", "tm_program_tests")
 
 # Names that leave open what a function does, or what its result is. Each is followed by those that may stay.
@@ -114,9 +113,9 @@ def names_of_types():
     types = by_name((name, path) for path, text in sources("*/src/*.rt") for name in TYPE.findall(text))
     for path, text in sources("*/specs/**/*.antt"):
         for name in names_in(text):
-            if name in types and name not in SEEN_TYPES | OTHER_THINGS:
+            if name in types and name not in SEEN_TYPES:
                 yield f"{name} is defined in {path}, and is a type of {' and '.join(map(str, types[name]))}"
-    for name in sorted((SEEN_TYPES | OTHER_THINGS) - types.keys()):
+    for name in sorted(SEEN_TYPES - types.keys()):
         yield f"{name} may be a type and a definition, and is no type"
 
 

@@ -56,7 +56,7 @@ stop_alone : option_map lacks_checkpoint (plan_of (with_settings (codes "extract
 unfolding clap_on_literals matches_of
 stop_alone = refl
 
--- one word too many, options of other subcommands, and the version behind a subcommand
+-- one word too many, options of other subcommands, and the version after a subcommand
 unknown : (faults_of (with_settings (codes "frames") (codes "r" ∷ codes "extra" ∷ [])) ≡ UnknownArgument ∷ [])
     × (faults_of (with_settings (codes "frames") (codes "--report" ∷ codes "x" ∷ [])) ≡ UnknownArgument ∷ [])
     × (faults_of (with_settings (codes "summary") (codes "--report" ∷ codes "x" ∷ [])) ≡ UnknownArgument ∷ [])

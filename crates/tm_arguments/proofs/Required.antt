@@ -105,7 +105,7 @@ fields_given rows f e =
     let apid = (number_read 16 (0, 2047) (codes "apid") rows (ltb-true 2047 (2 ^ 16) refl) ranges.0 f).1 given.1.1.0 in
     (given-first (codes "settings") rows f given.0, (given-first (codes "definition") rows f given.1.0, apid))
 
--- what every job takes behind its settings, and help
+-- what every job takes after its settings, and help
 job_ruled : AllByRecursion IsRuled (drop 1 (shape_at 2).rules)
 unfolding range_of
 job_ruled = ((refl, tt), ((refl, tt), ((refl, (refl, refl, refl)), ((refl, tt), ((refl, tt), ((refl, tt), ((refl, tt), tt)))))))

@@ -164,7 +164,7 @@ HasNeeds Summary p = ⊤
 abbrev pub HasRequired : Plan → Type 0
 HasRequired p = IsSome p.settings × HasNeeds p.action p
 
--- the text behind `--stop-after`
+-- the text after `--stop-after`
 abbrev pub stop_text_of : List Text → Option Text
 stop_text_of arguments = option_and_then (λ found. one_of (codes "stop-after") found.1) (matches_of arguments)
 

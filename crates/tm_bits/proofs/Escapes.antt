@@ -10,7 +10,7 @@ pub four : (octet : ℕ) → is_plain octet ≡ false → length (octet_text oct
 unfolding encode_with
 four octet e = ap (λ b. length (if b then octet ∷ [] else codes "\\x" ++ encode_lower (octet ∷ []))) e
 
--- what is written behind a text, and the next octet, are no longer than all octets
+-- what is written after a text, and the next octet, are no longer than all octets
 pub written_within : (octets before items : List ℕ) (i d : ℕ) → i < length octets
     → items ≡ before ++ flat_map octet_text (take i octets)
     → length items + length (octet_text (get_or octets i d)) ≤ length before + length (flat_map octet_text octets)

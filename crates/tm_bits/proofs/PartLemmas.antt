@@ -95,7 +95,7 @@ part-word n octets from to room ordered inside =
     ∙ number-slice front from to ordered (omega arith)
     ∙ ap (λ m. number front / 2 ^ (m - to) % 2 ^ (to - from)) l
 
--- a part behind k octets
+-- a part after k octets
 pub part-behind : (k : ℕ) (octets : List ℕ) (from to : ℕ) → k ≤ length octets → from ≤ to
     → part octets (8 * k + from) (8 * k + to) ≡ part (drop k octets) from to
 unfolding part

@@ -91,7 +91,7 @@ body v w = state_octets v w.state ++ sequence.entries_spelling w.entries
 abbrev pub checked : Version → Work → List ℕ
 checked v w = head_octets v w.rules ++ body v w
 
--- so many octets before, and two behind
+-- so many octets before, and two after
 checked_length : (head inside : List ℕ) (k : ℕ) → length head ≡ 5 + k → length (with_check (head ++ inside)) ≡ length inside + (7 + k)
 checked_length head inside k e = simp length-append (omega arith)
 
@@ -111,7 +111,7 @@ bound w h =
 pub most : (w : Work) → IsWork w → length (checkpoint_of w) ≤ 622710
 most w h = omega (arith, bound w h, h.state.limit.most)
 
--- the number that is written behind octets
+-- the number that is written after octets
 number_behind : (xs : List ℕ) (n : ℕ) → two_at (xs ++ two_octets n) (length xs) ≡ n
 number_behind xs n = rw (get_or-append_seam xs (n / 256) (n % 256 ∷ []) 0, get_or-append-add xs (two_octets n) 1 0) (omega arith)
 
@@ -141,7 +141,7 @@ version_spelled v w h told = record {
 abbrev pub check : Version → Work → List ℕ
 check v w = two_octets (error_control_of (checked v w))
 
--- the octets behind the settings, whatever follows
+-- the octets after the settings, whatever follows
 pub behind_head : (v : Version) (w : Work) (rest : List ℕ) → drop (5 + (form_of v).settings) (spelled_in v w ++ rest) ≡ (body v w ++ check v w) ++ rest
 unfolding spelled_in
 behind_head One w rest = refl
@@ -177,7 +177,7 @@ older_again v w h told =
 pub read_again : (w : Work) → IsWork w → resumed w.rules (checkpoint_of w) ≡ Ok (record { work = w; fresh = false })
 read_again w h = older_again Three w h refl
 
--- the parts of a checkpoint, one behind the other
+-- the parts of a checkpoint, one after the other
 pub joined : (w : Work) (a b c d : List ℕ) → a ≡ head_octets Three w.rules → b ≡ a ++ reassembly.state_spelling w.state
     → c ≡ b ++ sequence.entries_spelling w.entries → d ≡ with_check c → d ≡ checkpoint_of w
 unfolding spelled_in
@@ -257,7 +257,7 @@ check_again octets h long e =
     let len : length ys ≡ 2 = length-drop n octets ∙ omega arith in
     rw (← number, last_two ys (octets_behind n octets h) len) (sym (take-append-drop n octets))
 
--- octets behind a prefix of four and one more
+-- octets after a prefix of four and one more
 front_again : (k : ℕ) (octets first written : List ℕ) (v : ℕ) → 5 ≤ length octets → take 4 octets ≡ first → slice_index octets 4 ≡ v
     → slice_range octets 5 (5 + k) ≡ written → take (5 + k) octets ≡ first ++ v ∷ written
 front_again k octets first written v long fore named behind =

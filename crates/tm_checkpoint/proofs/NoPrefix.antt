@@ -110,7 +110,7 @@ unfolding spelled_in
 front One w rest = refl
 front _ w rest = refl
 
--- the octets behind them, part by part
+-- the octets after them, part by part
 parts : (v : Version) (w : Work) (rest : List ℕ) → drop (5 + (form_of v).settings) (spelled_in v w ++ rest)
     ≡ state_octets v w.state ++ (sequence.entries_spelling w.entries ++ (check v w ++ rest))
 parts v w rest =

@@ -85,7 +85,7 @@ head_octets v s = magic ++ (form_of v).octet ∷ settings_in v s
 abbrev pub state_octets : Version → State → List ℕ
 state_octets v s = if (form_of v).with_master then reassembly.state_spelling s else reassembly.old_spelling s
 
--- octets, and behind them their error control
+-- octets, and after them their error control
 abbrev pub with_check : List ℕ → List ℕ
 with_check octets = octets ++ two_octets (error_control_of octets)
 
@@ -107,7 +107,7 @@ check_holds octets = two_at octets (length octets - 2) == error_control_of (take
 abbrev pub says_settings : Version → Rules → List ℕ → Bool
 says_settings v s octets = tells v s && bytes_eq (slice_range octets 5 (5 + (form_of v).settings)) (settings_in v s)
 
--- the version, where nothing is wrong with the octets around the state and the entries; else what is wrong first behind the fifth octet
+-- the version, where nothing is wrong with the octets around the state and the entries; else what is wrong first after the fifth octet
 abbrev pub version_of_form : Rules → List ℕ → Option Version → Result Version CheckpointFault
 version_of_form s octets None = Err fault.Version
 version_of_form s octets (Some v) =
@@ -136,7 +136,7 @@ abbrev pub with_entries : Rules → State → ℕ → Result sequence.DecodedEnt
 with_entries s state octets (Ok read) = if nat_lt read.octets octets then Err fault.Trailing else Ok (job_of s state read.entries)
 with_entries s state octets (Err found) = Err fault.State
 
--- with the state that is read of the octets, and the entries that are read behind it
+-- with the state that is read of the octets, and the entries that are read after it
 abbrev pub with_state : Rules → List ℕ → Result reassembly.DecodedState StateFault → Result JobState CheckpointFault
 with_state s octets (Ok read) =
     with_entries s read.state (length (drop read.octets octets)) (sequence.entries_decoding_of (drop read.octets octets))

@@ -1,4 +1,4 @@
--- What is left behind a buffer, once octets of the buffer are taken.
+-- What a source with a buffer has left, once octets of the buffer are taken.
 use Rattle.std.proofs.Common.{◌≡◌, ◌∙◌, ◌++◌, Bool, ℕ, List, Option, None, Some, ap, append_assoc, drop, false, if◌then◌else◌, sym, take, true}
 use Rattle.std.proofs.lemmas.List.{take-append-drop}
 use Rattle.std.specs.Io.KnownBytes.{Consumes, prepend_known}

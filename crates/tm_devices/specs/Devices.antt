@@ -11,8 +11,8 @@ abbrev pub raised : ℕ → ℕ
 raised n = min (n + 1) greatest
 
 -- each Err raises the count, and nothing else does
-abbrev pub Counts : {T E : Type 0} → ℕ → ℕ → Result T E → Type 0
-Counts old new r = MatchResult r (λ _. new ≡ old) (λ _. new ≡ raised old)
+abbrev pub CountsFailures : {T E : Type 0} → ℕ → ℕ → Result T E → Type 0
+CountsFailures old new r = MatchResult r (λ _. new ≡ old) (λ _. new ≡ raised old)
 
 -- n octets of so many, at least one if there is one
 abbrev pub TakesSome : ℕ → ℕ → Type 0
@@ -28,7 +28,7 @@ PassesOver old new n (Err e) = new ≡ old
 abbrev pub HasMoved : Option ℕ → Option ℕ → ℕ → Bool → Type 0
 HasMoved old new n did = IfSome old (λ at. new ≡ Some (if did then at + n else at))
 
--- there are so many octets behind a known position, where all are known
+-- there are so many octets after a known position, where all are known
 abbrev pub AreAhead : Option ℕ → Option (List ℕ) → ℕ → Type 0
 AreAhead position all n = IfSome position (λ at. IfSome all (λ octets. at + n ≤ length octets))
 

@@ -2,7 +2,7 @@
 
 ghost use Rattle.std.specs.Prelude.{◌≡◌, ◌≤◌, ℕ, Bool, true, List, [], drop, length, take, Option, None, IfOk, OnOk, OnErr};
 ghost use Rattle.std.specs.Io.KnownBytes.{Consumes, Keeps, ReadConsumes, WriteAppends};
-ghost use Rattle.tm_devices.specs.Devices.{Counts, PassesOver, Puts, PutsPrefix, PutsNone, TakesSome};
+ghost use Rattle.tm_devices.specs.Devices.{CountsFailures, PassesOver, Puts, PutsPrefix, PutsNone, TakesSome};
 
 /// A call of a device failed.
 #[derive(Clone, Copy, Debug, PartialEq, Eq)]
@@ -24,13 +24,13 @@ pub trait Source {
     fn read(&mut self, buffer: &mut [u8]) -> Result<usize, DeviceFailed>
         ensures bound { IfOk result (λ n. n ≤ length buffer.new) }
         ensures octets { ReadConsumes (left self.old) (left self.new) result buffer.new }
-        ensures counts { Counts (failures self.old) (failures self.new) result };
+        ensures counts { CountsFailures (failures self.old) (failures self.new) result };
 
     /// Passes over this many octets in one step, if there are as many and the device can, and answers whether it did. If it did not, or the
     /// call failed, none was passed over, and the octets are read.
     fn pass_over(&mut self, _octets: u64) -> Result<bool, DeviceFailed>
         ensures octets { PassesOver (left self.old) (left self.new) _octets result }
-        ensures counts { Counts (failures self.old) (failures self.new) result }
+        ensures counts { CountsFailures (failures self.old) (failures self.new) result }
     {
         Ok(false)
     }
@@ -69,7 +69,7 @@ pub trait BufferedSource {
     fn read(&mut self, buffer: &mut [u8]) -> Result<usize, DeviceFailed>
         ensures bound { IfOk result (λ n. n ≤ length buffer.new) }
         ensures octets { ReadConsumes (left self.old) (left self.new) result buffer.new }
-        ensures counts { Counts (failures self.old) (failures self.new) result };
+        ensures counts { CountsFailures (failures self.old) (failures self.new) result };
 
     /// The octets at hand.
     fn at_hand(&self) -> &[u8]
@@ -85,7 +85,7 @@ pub trait BufferedSource {
     /// Passes over octets as a source does.
     fn pass_over(&mut self, _octets: u64) -> Result<bool, DeviceFailed>
         ensures octets { PassesOver (left self.old) (left self.new) _octets result }
-        ensures counts { Counts (failures self.old) (failures self.new) result }
+        ensures counts { CountsFailures (failures self.old) (failures self.new) result }
     {
         Ok(false)
     }
@@ -137,14 +137,14 @@ pub trait Drain {
         ensures same { fixed self.new ≡ fixed self.old }
         ensures bound { IfOk result (λ n. TakesSome n (length octets.now)) }
         ensures octets { WriteAppends (written self.old) (written self.new) result octets.now }
-        ensures counts { Counts (failures self.old) (failures self.new) result };
+        ensures counts { CountsFailures (failures self.old) (failures self.new) result };
 
     /// Passes on all that was written.
     fn flush(&mut self) -> Result<(), DeviceFailed>
         ensures same { fixed self.new ≡ fixed self.old }
         ensures octets { Keeps (written self.old) (written self.new) }
         ensures passed { OnOk result (Keeps (flushed self.new) (written self.new)) }
-        ensures counts { Counts (failures self.old) (failures self.new) result };
+        ensures counts { CountsFailures (failures self.old) (failures self.new) result };
 }
 
 /// Where the packets of applications go, to a place for each.
@@ -163,7 +163,7 @@ pub trait Shelf {
     fn put(&mut self, application: u16, octets: &[u8]) -> Result<(), Self::Fault>
         ensures whole { OnOk result (Puts (kept self.old) (kept self.new) application octets.now) }
         ensures prefix { OnErr result (PutsPrefix (kept self.old) (kept self.new) application octets.now) }
-        ensures counts { Counts (refusals self.old) (refusals self.new) result };
+        ensures counts { CountsFailures (refusals self.old) (refusals self.new) result };
 
     /// Writes out what the shelf holds in memory. A run asks for it before its source may wait. What can't be written then shows at the next put,
     /// or where the shelf's user ends it. A shelf that holds nothing need not do anything.

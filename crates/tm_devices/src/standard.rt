@@ -2,7 +2,7 @@
 
 ghost use Rattle.std.specs.Prelude.{◌≡◌, true, None, IfOk};
 ghost use Rattle.std.specs.Io.Buffered.{reader_buffer};
-ghost use Rattle.tm_devices.specs.Devices.{AreAhead, Counts, HasMoved, PassesOver};
+ghost use Rattle.tm_devices.specs.Devices.{AreAhead, CountsFailures, HasMoved, PassesOver};
 
 use crate::{BufferedSource, DeviceFailed, Drain, Source};
 use std::io::{self, BufRead, BufReader, Read, Seek, SeekFrom, Write};
@@ -41,7 +41,7 @@ impl<R: Read> Source for Reading<R> {
     }
 }
 
-/// A reader of std behind a buffer, which shows what it holds. Each error of it is a failure.
+/// A reader of std with a buffer, which shows what it holds. Each error of it is a failure.
 #[derive(Drop)]
 pub struct Buffered<R> {
     reading: Reading<BufReader<R>>,
@@ -80,7 +80,7 @@ impl<R: Read> BufferedSource for Buffered<R> {
     }
 }
 
-/// A reader of std that can seek, as a file can, behind a buffer: octets are passed over by a seek.
+/// A reader of std that can seek, as a file can, with a buffer: octets are passed over by a seek.
 #[derive(Drop)]
 pub struct Seeking<R> {
     buffered: Buffered<R>,
@@ -101,7 +101,7 @@ impl<R: Read + Seek> Seeking<R> {
     }
 }
 
-// Moves a reader on by so many octets, if there are so many ahead, and answers whether there are. If it can't be moved, as a pipe, there are none.
+// Moves a reader on by `octets`, if as many are ahead, and answers whether they are. If it can't be moved, as a pipe, there are none.
 fn seek_forward<R: Seek>(reader: &mut R, octets: u64) -> io::Result<bool>
     ensures moved { IfOk result (HasMoved (R.stream_position reader.old) (R.stream_position reader.new) octets) }
     ensures within { IfOk result (λ did. did ≡ true
@@ -150,7 +150,7 @@ impl<R: Read + Seek> BufferedSource for Seeking<R> {
 
     fn pass_over(&mut self, octets: u64) -> Result<bool, DeviceFailed>
         ensures octets { PassesOver None None octets result }
-        ensures counts { Counts self.old.buffered.reading.failed self.new.buffered.reading.failed result }
+        ensures counts { CountsFailures self.old.buffered.reading.failed self.new.buffered.reading.failed result }
         ensures moved { IfOk result (HasMoved (⟦<BufReader<R> as Seek>⟧.stream_position self.old.buffered.reading.reader)
             (⟦<BufReader<R> as Seek>⟧.stream_position self.new.buffered.reading.reader) octets) }
         ensures within { IfOk result (λ did. did ≡ true

@@ -2,7 +2,7 @@
 
 ghost use Rattle.std.specs.Prelude.{ℕ, List, [], ◌≡◌, ◌≢◌, ◌<◌, ◌≤◌, true, length, take, IfOk, OnOk, OnErr};
 ghost use Rattle.std.specs.Io.KnownBytes.{Appends, Consumes, IsAtEnd};
-ghost use Rattle.tm_devices.specs.Devices.{AppendsPrefix, Counts};
+ghost use Rattle.tm_devices.specs.Devices.{AppendsPrefix, CountsFailures};
 
 use crate::{BufferedSource, DeviceFailed, Drain};
 
@@ -12,7 +12,7 @@ pub fn write_all<W: Drain>(out: &mut W, octets: &[u8]) -> Result<(), DeviceFaile
     ensures whole { OnOk result (Appends (W.written out.old) (W.written out.new) octets.now) }
     ensures prefix { OnErr result (AppendsPrefix (W.written out.old) (W.written out.new) octets.now) }
     ensures some { OnErr result (octets.now ≢ []) }
-    ensures counts { Counts (W.failures out.old) (W.failures out.new) result }
+    ensures counts { CountsFailures (W.failures out.old) (W.failures out.new) result }
 {
     let mut rest = octets;
     while !rest.is_empty() {
@@ -37,7 +37,7 @@ pub fn fill<R: BufferedSource>(source: &mut R, buffer: &mut [u8]) -> Result<usiz
     ensures end { IfOk result (λ n. n < length buffer.new → IsAtEnd (R.left source.new)) }
     ensures part { OnErr result ((part : List ℕ) × Consumes (R.left source.old) (R.left source.new) part
         × (length part < length buffer.new)) }
-    ensures counts { Counts (R.failures source.old) (R.failures source.new) result }
+    ensures counts { CountsFailures (R.failures source.old) (R.failures source.new) result }
 {
     let mut filled = 0;
     while filled < buffer.len() {

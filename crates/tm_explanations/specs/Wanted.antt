@@ -1,4 +1,4 @@
--- When a line behind that of a fault is wanted.
+-- When a line after that of a fault is wanted.
 use Rattle.std.specs.Prelude.{ℕ, List, Bool, true, false, codes, if◌then◌else◌}
 use Rattle.std.specs.Str.{bytes_eq}
 

@@ -17,7 +17,7 @@ use Rattle.tm_faults.specs.declared.definition.DefinitionFault.TheVariants as fa
 use Rattle.tm_fields.specs.declared.field.DataType.TheVariants.{Uint, Int, Float, Str, Fill}
 use Rattle.tm_fields.specs.declared.field.Field.{Field}
 
--- a type with brackets, no type, more bits than a number may have, a name that is taken, and an end behind the longest packet
+-- a type with brackets, no type, more bits than a number may have, a name that is taken, and an end after the longest packet
 rows_refused : (definition_of (codes "name,data_type,bit_length\nA,uint(4),8\n") ≡ Err (fault.Array 1))
     × (definition_of (codes "name,data_type,bit_length\nA,bool,8\n") ≡ Err (fault.Kind 1))
     × (definition_of (codes "name,data_type,bit_length\nA,uint,65\n") ≡ Err (fault.Bits 1))
@@ -61,7 +61,7 @@ row : row_from Text fields lead packet ≡ Ok (codes "0,0,100,0,7,-1,\"a,b\",0x3
 unfolding escaped fields_text is_blank digits encode_with bits_of low_bits number part
 row = refl
 
--- one and a half octets; a last bit that would lie behind the octets; and no bits
+-- one and a half octets; a last bit that would lie after the octets; and no bits
 bits_read : (number_within (255 ∷ 240 ∷ []) 0 12 ≡ Some 4095) × (number_within (255 ∷ 240 ∷ []) 12 5 ≡ None) × (number_within (255 ∷ 240 ∷ []) 0 0 ≡ None)
 unfolding bits_of low_bits number part
 bits_read = (refl, refl, refl)

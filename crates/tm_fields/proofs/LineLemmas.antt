@@ -35,13 +35,13 @@ unfolding is_blank
 row_is (x ∷ y ∷ more) h = refl
 row_is _ h = absurd (omega arith)
 
--- values behind commas, in two parts
+-- values after commas, in two parts
 pub fields_of_both : (xs ys : List (List ℕ)) → fields_text default_writer (xs ++ ys) ≡ fields_text default_writer xs ++ fields_text default_writer ys
 unfolding fields_text
 fields_of_both [] ys = refl
 fields_of_both (x ∷ xs) ys = rw (fields_of_both xs ys, append_assoc (field_text default_writer x) (fields_text default_writer xs) (fields_text default_writer ys)) refl
 
--- a line of two values or more, and values behind them
+-- a line of two values or more, and values after them
 pub line_whole : (x y : List ℕ) (more rest : List (List ℕ))
     → (row_body default_writer (x ∷ y ∷ more) ++ fields_text default_writer rest) ++ 10 ∷ [] ≡ row_text default_writer ((x ∷ y ∷ more) ++ rest)
 line_whole x y more rest =

@@ -39,7 +39,7 @@ decimal_plain n small = digits_plain (decimal n) (decimal_is_IsNumeral n small).
 pub number_made : (row : List ℕ) (n : ℕ) → n < 2 ^ 64 → (row ++ 44 ∷ []) ++ decimal n ≡ row ++ fields_text default_writer (decimal n ∷ [])
 number_made row n small = append_assoc row (44 ∷ []) (decimal n) ∙ ap (λ value. row ++ value) (sym (column (decimal n) (decimal_plain n small)))
 
--- a number, and then values behind commas
+-- a number, and then values after commas
 pub lead_made : (row : List ℕ) (n : ℕ) (a b c : List ℕ) → n < 2 ^ 64
     → (((row ++ decimal n) ++ fields_text default_writer (a ∷ [])) ++ fields_text default_writer (b ∷ [])) ++ fields_text default_writer (c ∷ [])
     ≡ row ++ row_body default_writer (decimal n ∷ a ∷ b ∷ c ∷ [])

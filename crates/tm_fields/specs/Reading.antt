@@ -81,7 +81,7 @@ within row bits (Some begin) = if nat_le (begin + bits) greatest_end then Ok beg
 abbrev pub begin_of : ℕ → ℕ → ℕ → List ℕ → ReadOrFault ℕ
 begin_of row before bits text = within row bits (begin_named before text)
 
--- the bit behind a field
+-- the bit after a field
 abbrev pub end_of : Field → ℕ
 end_of f = f.begin + f.length
 
@@ -114,7 +114,7 @@ field_name_of row data_type name fields = if is_refused_name data_type name fiel
 
 -- ---- the fields
 
--- The field of a record that comes after some fields: rows count from 1, and the first field begins behind the 48 bits of the
+-- The field of a record that comes after some fields: rows count from 1, and the first field begins after the 48 bits of the
 -- packet's header.
 abbrev pub defined_field_of : Columns → List Field → List (List ℕ) → ReadOrFault Field
 defined_field_of columns before values =

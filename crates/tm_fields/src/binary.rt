@@ -25,7 +25,7 @@ fn extend_sign(bits: u32, number: u64) -> u64
     number + (power(64) - power(bits)) as u64
 }
 
-// Appends a number of so many bits, the least significant octet first.
+// Appends a number of `bits` bits, the least significant octet first.
 fn push_number(row: &mut Vec<u8>, bits: u32, number: u64)
     requires { vec_len row.old + number_length bits ≤ vec_capacity row.old }
     ensures items { row.new.items ≡ row.old.items ++ little_bytes (number_length bits) number }
@@ -41,7 +41,7 @@ fn push_number(row: &mut Vec<u8>, bits: u32, number: u64)
     }
 }
 
-// Appends so many octets of a packet from a bit on.
+// Appends `count` octets of a packet from a bit on.
 #[tactic(auto, using(std::proofs::lemmas::Grind::common_steps, crate::proofs::NumberLemmas::octets_at_length, crate::proofs::NumberLemmas::octets_next))]
 fn push_octets(row: &mut Vec<u8>, packet: &[u8], at: u32, count: u32)
     requires within { at + 8 * count ≤ bits_in packet.now }

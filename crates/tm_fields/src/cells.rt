@@ -11,7 +11,7 @@ use std::alloc::{AllocError, Global};
 use std::marker::Model;
 use tm_bits::push_escaped;
 
-// Behind lines of more octets than this the next line begins a new text.
+// After lines of more octets than this the next line begins a new text.
 const ENOUGH: usize = 32768;
 
 // Writes a line of an empty value and this one, and passes it on.
@@ -71,7 +71,7 @@ impl Cells {
             begin_again(self.alloc, &mut self.writer);
             return Err(AllocError);
         }
-        // The comma stands behind the empty value.
+        // The comma stands after the empty value.
         let lines = self.writer.get_ref().as_slice();
         row.extend_from_slice(&lines[before..lines.len() - 1])
     }

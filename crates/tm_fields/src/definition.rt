@@ -71,7 +71,7 @@ fn read_fields(
 {
     let mut fields = Vec::new(alloc);
     let mut names = BTreeSet::new(alloc);
-    // The bit behind the last field: the first begins behind the packet's header.
+    // The bit after the last field: the first begins after the packet's header.
     let mut before = 48u32;
     let mut needed = 0u32;
     for values in records {

@@ -60,7 +60,7 @@ pub struct Field {
     pub length: u32,
 }
 
-// The fewest of 1, 2, 4 and 8 octets that hold so many bits.
+// The fewest of 1, 2, 4 and 8 octets that hold `bits` bits.
 fn number_length(bits: u32) -> u32
     ensures { result ≡ number_length bits }
 {

@@ -20,7 +20,7 @@ fn big_endian(octets: &[u8]) -> u128
     all
 }
 
-// The bits of a word in front of the last `behind`, so many of them.
+// The `count` bits of a word that stand before its last `behind` bits.
 #[tactic(auto, using(crate::proofs::NumberLemmas::masked, crate::proofs::NumberLemmas::masked_below))]
 fn cut_bits(word: u64, behind: u32, count: u32) -> u64
     requires some { 1 ≤ count }
@@ -31,7 +31,7 @@ fn cut_bits(word: u64, behind: u32, count: u32) -> u64
     (word >> behind) & (u64::MAX >> (64 - count))
 }
 
-// The number in so many bits: the octets that hold them are put together, the bits behind are shifted away, and those in front are
+// The number in `bits` bits: the octets that hold them are put together, the bits after them are shifted away, and those before are
 // masked.
 fn number_across_octets(octets: &[u8], at: u32, count: u32) -> u64
     requires few { count ≤ 64 }

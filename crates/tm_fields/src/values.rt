@@ -41,7 +41,7 @@ pub(crate) fn push_uint(row: &mut Vec<u8>, number: u64) -> Result<(), AllocError
     push_number(row, number)
 }
 
-// Writes a number of so many bits in two's complement at the end of a text.
+// Writes a number of `bits` bits in two's complement at the end of a text.
 fn push_signed(text: &mut Vec<u8>, bits: u32, number: u64) -> Result<(), AllocError>
     requires some { 1 ≤ bits }
     requires few { bits ≤ 64 }
@@ -68,7 +68,7 @@ fn push_int(row: &mut Vec<u8>, bits: u32, number: u64) -> Result<(), AllocError>
     push_signed(row, bits, number)
 }
 
-// So many octets from a bit on, of a field that doesn't begin on an octet's border.
+// `count` octets from a bit on, of a field that doesn't begin on an octet's border.
 #[tactic(auto, using(std::proofs::lemmas::Grind::common_steps, crate::proofs::NumberLemmas::octets_next))]
 fn unaligned_octets(
     alloc: Global,
@@ -87,7 +87,7 @@ fn unaligned_octets(
     Ok(octets)
 }
 
-/// So many octets of a packet from a bit on, which is the first of an octet.
+/// `count` octets of a packet from a bit on, which is the first of an octet.
 #[tactic(auto, using(crate::proofs::NumberLemmas::octets_at_border))]
 pub(crate) fn aligned_octets(packet: &[u8], at: u32, count: u32) -> &[u8]
     requires border { at % 8 ≡ 0 }

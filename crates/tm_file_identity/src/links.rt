@@ -10,7 +10,7 @@ use std::io::{self, ErrorKind};
 use std::path::{Path, PathBuf};
 use std::rt::Files;
 
-// So many links are followed at the most, as the system does.
+// At most this many links are followed, as the system does.
 const MOST_LINKS: usize = 40;
 
 // Tells where links lead: the system's, and for proofs any links whatever.

@@ -1,4 +1,4 @@
-//! What is opened: the recording, the report, and the buffers behind the one and before the other.
+//! What is opened: the recording, the report, and their buffers.
 
 ghost use Rattle.std.specs.Prelude.{◌≡◌, IfErr, IfOk, is_some};
 ghost use Rattle.tm_files.specs.code.Files.{HasFault, IsFileFault, IsNoMemory};
@@ -17,13 +17,13 @@ use tm_bits::Octets;
 use tm_devices::{Buffered, Seeking, Writing};
 use tm_faults::{RunFault, ToolFault};
 
-// The octets of the buffer behind the recording.
+// The octets of the recording's buffer.
 const RECORDING_BUFFER: usize = 131_072;
 
 // The octets of the buffer before an output.
 const OUTPUT_BUFFER: usize = 65_536;
 
-// A buffer behind the recording.
+// The recording's buffer.
 fn make_reader<S: Read + Drop>(alloc: Global, recording: S) -> Result<BufReader<S>, ToolFault>
     ensures left { IfOk result (λ reader. ⟦<BufReader<S> as Read>⟧.remaining reader ≡ S.remaining recording) }
     ensures refused { IfErr result IsNoMemory }

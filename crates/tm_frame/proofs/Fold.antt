@@ -23,7 +23,7 @@ pub folds_16 : Folds 16
 unfolding remainder_from number long_division subtract low_bits
 folds_16 = record { sum = refl }
 
--- ---- zeros behind
+-- ---- zeros after
 
 -- the register after n zeros
 abbrev pub passed : ℕ → ℕ → ℕ
@@ -45,7 +45,7 @@ passed-swap m n register =
 pub zeros-passed : (n : ℕ) (ys : List Bool) → remainder_from 0 (replicate n false ++ ys) ≡ remainder_from 0 ys
 zeros-passed n ys = remainder_from-append 0 (replicate n false) ys ∙ ap (λ r. remainder_from r ys) (remainder_from-zeros n)
 
--- bits in front apart from those behind
+-- bits in front apart from those after
 pub remainder-apart : (xs ys : List Bool) → remainder_from 0 (xs ++ ys) ≡ bit_xor (shifted (length ys) xs) (remainder_from 0 ys)
 remainder-apart xs ys =
     remainder_from-append 0 xs ys

@@ -47,7 +47,7 @@ shifted-octets n xs ys same =
     ap (shifted n) (bits_of-xor xs ys same)
     ∙ shifted-sum n (bits_of xs) (bits_of ys) (length-bits_of xs ∙ ap (λ k. 8 * k) same ∙ sym (length-bits_of ys))
 
--- the octets in front apart from those behind
+-- the octets in front apart from those after
 front-apart : (front back : List ℕ) (n : ℕ) → length back ≡ n
     → octets_remainder (front ++ back) ≡ bit_xor (shifted (8 * n) (bits_of front)) (octets_remainder back)
 front-apart front back n width =
@@ -98,7 +98,7 @@ shifted-append n xs ys =
     ∙ remainder-apart xs (ys ++ replicate n false)
     ∙ ap (λ k. bit_xor (shifted k xs) (shifted n ys)) (length-append ys (replicate n false) ∙ ap (λ k. length ys + k) (length-replicate n false))
 
--- octets before k others. Behind the others there are n, and so behind these there are m
+-- octets before k others. After the others there are n, and so after these there are m
 octets_apart_at : (n m k : ℕ) (xs ys : List ℕ) → length ys ≡ k → m ≡ k + n
     → shifted (8 * n) (bits_of (xs ++ ys)) ≡ bit_xor (shifted (8 * m) (bits_of xs)) (shifted (8 * n) (bits_of ys))
 octets_apart_at n m k xs ys many further =
@@ -144,7 +144,7 @@ regrouped r a p f c s =
     ∙ xor_exchange a r q p
     ∙ sym (xor_assoc (bit_xor a q) r p)
 
--- What stands behind a pair, with the pair added at the three places, has the remainder of both. The rest of the pair before
+-- What stands after a pair, with the pair added at the three places, has the remainder of both. The rest of the pair before
 -- is added there as well, and the pair's own one is left out.
 pub pair_folds : (step : ℕ) (before pair octets joined : List ℕ) (first second third m n : ℕ) → Folds (8 * step) → 4 ≤ step → step ≤ 8
     → third ≡ bit_xor second (shifted (8 * (n - ((16 * step - 16) + 16))) (bits_of pair))
@@ -285,7 +285,7 @@ preset_octets octets =
     ∙ remainder_from-append (remainder_from 0 (low_bits 8 0x84)) (low_bits 8 0xCF) (bits_of octets)
     ∙ ap (λ r. remainder_from r (bits_of octets)) preset
 
--- zeros in front change nothing, and the two octets behind them are a register of ones
+-- zeros in front change nothing, and the two octets after them are a register of ones
 first_octets : (n : ℕ) (octets : List ℕ) → octets_remainder (replicate n 0 ++ 0x84 ∷ 0xCF ∷ octets) ≡ remainder_from 65535 (bits_of octets)
 first_octets n octets =
     let behind : List ℕ = 0x84 ∷ 0xCF ∷ octets in

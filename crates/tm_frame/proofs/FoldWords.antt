@@ -134,7 +134,7 @@ added_across ws place at within x is some inside room fits =
 
 -- ---- a word is taken away
 
--- what stands behind a word, with the word added at the three places, has the remainder of both
+-- what stands after a word, with the word added at the three places, has the remainder of both
 pub word_folds : (width w : ℕ) (ws : List ℕ) (first second third m n : ℕ)
     → third ≡ bit_xor second (shifted (64 * n - (16 * width - 64 + 64)) (low_bits 64 w))
     → second ≡ bit_xor first (shifted (64 * m - (11 * width - 64 + 64)) (low_bits 64 w))

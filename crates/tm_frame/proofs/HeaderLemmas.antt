@@ -33,7 +33,7 @@ pub part_read : (frame : List ℕ) (word from to read : ℕ) → AreOctets frame
 part_read frame word from to read octets room whole ordered inside is =
     is ∙ ap (λ n. n / 2 ^ (48 - to) % 2 ^ (to - from)) whole ∙ sym (part-big 6 frame from to octets room ordered inside)
 
--- a part of the octet behind the primary header
+-- a part of the octet after the primary header
 pub part_secondary : (frame : List ℕ) (from to : ℕ) → AreOctets frame → 7 ≤ length frame → from ≤ to → to ≤ 8
     → part frame (48 + from) (48 + to) ≡ get_or frame 6 0 / 2 ^ (8 - to) % 2 ^ (to - from)
 part_secondary frame from to octets room ordered inside =

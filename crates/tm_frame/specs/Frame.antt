@@ -9,7 +9,7 @@ use Rattle.tm_frame.specs.Header.{channel_of, ocf_flag, master_count_of, channel
 abbrev pub frame_of : LayoutParts → List ℕ → List ℕ
 frame_of layout octets = slice_range octets layout.skip_before (layout.skip_before + layout.frame_length)
 
--- where the data field begins: behind the primary header of 6 octets and the secondary header
+-- where the data field begins: after the primary header of 6 octets and the secondary header
 abbrev pub field_start : List ℕ → ℕ
 field_start frame = 6 + secondary_length_of frame
 

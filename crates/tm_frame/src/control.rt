@@ -87,7 +87,7 @@ fn begin(held: &mut [u8; 128], first: &[u8])
     copy(held, &octets[16..]);
 }
 
-// Octets with the remainder of those held and a block behind them.
+// Octets with the remainder of those held and of a block that follows them.
 #[inline(always)]
 #[tactic(auto, using(crate::proofs::FoldPairs::appended, crate::proofs::Fold::folds_64))]
 fn append_block(held: &mut [u8; 128], block: &[u8])
@@ -132,7 +132,7 @@ fn copy(octets: &mut [u8], from: &[u8])
     }
 }
 
-// All pairs of words are taken away from the front, until 16 times `step` octets are left. A vector of the processor holds a pair. Behind
+// All pairs of words are taken away from the front, until 16 times `step` octets are left. A vector of the processor holds a pair. After
 // the last pair its rest is still to be added.
 #[inline(always)]
 #[tactic(auto, using(crate::proofs::FoldPairs::pair_by_pair))]
@@ -265,7 +265,7 @@ fn fold_word(words: &mut [u64], width: usize, word: u64)
     add_at(words, 16 * width - 64, word);
 }
 
-// A word is added without carries so many bits behind the front.
+// A word is added without carries `bits` bits after the front.
 #[inline(always)]
 #[tactic(auto, using(crate::proofs::FoldWords::added_at, crate::proofs::FoldWords::added_across))]
 fn add_at(words: &mut [u64], place: usize, word: u64)

@@ -36,7 +36,7 @@ drop-pred : (n x : ℕ) (xs : List ℕ) → 0 < n → drop n (x ∷ xs) ≡ drop
 drop-pred zero x xs h = absurd (omega arith)
 drop-pred (suc n) x xs h = refl
 
--- the first packet, and those behind it
+-- the first packet, and those after it
 pub front-some : (limit : ℕ) (t : List ℕ) → has_packet limit t ≡ true
     → front_packets limit t ≡ take (packet_length t) t ∷ front_packets limit (drop (packet_length t) t)
 front-some limit [] e = let w = whole-true limit [] e in absurd (omega (arith, packet_length_least [], w.inside))
@@ -143,7 +143,7 @@ header-none limit t e = by (has_packet limit t) refl
     by true is = absurd (none_some (e ∙ rw is refl))
     by false is = is
 
--- What is left of octets from a place on has a packet at its front: what is left behind that.
+-- What is left of octets from a place on has a packet at its front: what is left after that.
 pub record IsNext (limit seen channel place at n : ℕ) (o left : List ℕ) : Type 0 where
   pub inside : at + n ≤ length o
   pub whole : n ≡ length (take n left)

@@ -38,7 +38,7 @@ packet_length_unread octets fault p e =
     let short = reading-err octets fault zero e in absurd (omega arith))
     (cases_lt (length octets) 6)
 
--- more octets behind a header change nothing
+-- more octets after a header change nothing
 pub header-front : (n : ℕ) (octets : List ℕ) → n ≤ length octets → 6 ≤ n → packet_header_of (take n octets) ≡ packet_header_of octets
 header-front n octets inside long =
     let same : (from to : ℕ) → from ≤ to → to ≤ 48 → part (take n octets) from to ≡ part octets from to =

@@ -23,7 +23,7 @@ RefusesOne-right {S} takes refuses old mid new [] ys fault h k = subst (λ (s : 
 RefusesOne-right takes refuses old mid new (x ∷ xs) ys fault h k =
     inr (h.0, h.1, RefusesOne-right takes refuses h.0 mid new xs ys fault h.2 k)
 
--- a call that gives further items behind those that were taken, and one that is refused among some first ones
+-- a call that gives further items after those that were taken, and one that is refused among some first ones
 module _ {S F T : Type 0} (s : sink.Ghosts S F) (old mid new : S) (xs ys : List Item) where
   pub gives_behind : (r : Result T F) → TakesAll s.takes (s.known old) xs (s.known mid) → Gives s mid new ys r → Gives s old new (xs ++ ys) r
   gives_behind (Ok value) before h = TakesAll-append s.takes _ _ _ xs ys before h

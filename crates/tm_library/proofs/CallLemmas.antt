@@ -33,12 +33,12 @@ no_head : (command : Command) → head_pieces command false ≡ []
 no_head Extract = refl
 no_head _ = refl
 
--- what is left is the rest behind the whole records
+-- what is left is the rest after the whole records
 rest_left : (job : JobState) (octets : List ℕ) → left_behind job octets ≡ rest_of (size_of job.work) octets
 unfolding rest_of
 rest_left job octets = refl
 
--- octets of records in front, and behind them
+-- octets of records in front, and after them
 octets_cut : (ones others : List (List ℕ)) → AllOctets (ones ++ others) → AllOctets ones × AllOctets others
 octets_cut [] others h = (tt, h)
 octets_cut (one ∷ ones) others h = let (front, behind) = octets_cut ones others h.1 in ((h.0, front), behind)

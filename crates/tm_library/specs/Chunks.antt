@@ -66,19 +66,19 @@ abbrev pub chunk_ending : Bool → Ending
 chunk_ending true = Close
 chunk_ending false = Keep
 
--- the pieces of a chunk: of its whole records, and behind the last chunk those of the closed end
+-- the pieces of a chunk: of its whole records, and after the last chunk those of the closed end
 abbrev pub chunk_pieces : Command → Bool → JobState → List ℕ → List (Piece ℕ)
 chunk_pieces command last job octets =
     head_pieces command job.fresh
     ++ pieces_after (text_of command) (chunk_ending last) job.work (records (size_of job.work) octets) (length (rest_of (size_of job.work) octets))
 
--- the lines of the whole records of octets, the first being record `first`, and behind the last chunk that of a rest
+-- the lines of the whole records of octets, the first being record `first`, and after the last chunk that of a rest
 abbrev pub lines_from : LayoutParts → ℕ → Bool → List ℕ → List (List ℕ)
 lines_from layout first last octets =
     record_lines layout first (records (record_length_of layout) octets)
     ++ end_lines (chunk_ending last) (first + length (records (record_length_of layout) octets)) (length (rest_of (record_length_of layout) octets))
 
--- the lines of a chunk's frames, numbered behind the records that are done
+-- the lines of a chunk's frames, numbered after the records that are done
 abbrev pub frame_lines : Bool → JobState → List ℕ → List (List ℕ)
 frame_lines last job octets = lines_from job.work.rules.layout job.work.state.records last octets
 
@@ -97,7 +97,7 @@ abbrev pub chunk_totals : Wanted → Bool → JobState → List ℕ → Totals
 chunk_totals (Packets command) last job octets = totals_by command last job octets
 chunk_totals Frames last job octets = totals_by Extract last job octets
 
--- the job behind the whole records of a chunk
+-- the job after the whole records of a chunk
 abbrev pub job_behind : JobState → List ℕ → JobState
 job_behind job octets = record { work = worked job.work (records (size_of job.work) octets); fresh = false }
 
@@ -106,7 +106,7 @@ abbrev pub kept_octets : Option Work → List ℕ
 kept_octets None = []
 kept_octets (Some w) = checkpoint_of w
 
--- the checkpoint behind a chunk; there is none behind the last
+-- the checkpoint after a chunk; there is none after the last
 abbrev pub checkpoint_behind : Bool → JobState → List ℕ → List ℕ
 checkpoint_behind last job octets = kept_octets (kept_of (chunk_ending last) (job_behind job octets).work)
 

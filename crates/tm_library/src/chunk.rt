@@ -1,11 +1,11 @@
 //! The octets that follow the records that are done, as a recording.
 
 ghost use Rattle.std.specs.Prelude.{◌≡◌, ◌==◌, ◌≤◌, true, false, Some, [], ◌++◌, replicate, if◌then◌else◌, IfOk};
-ghost use Rattle.tm_devices.specs.Devices.{Counts, PassesOver};
+ghost use Rattle.tm_devices.specs.Devices.{CountsFailures, PassesOver};
 
 use tm_tool::{BufferedSource, DeviceFailed};
 
-/// The recording that a run over a chunk reads: the octets that are done stand as zeros, and a run passes over them and reads none. Behind them
+/// The recording that a run over a chunk reads: the octets that are done stand as zeros, and a run passes over them and reads none. After them
 /// come the octets of the chunk.
 #[derive(Clone, Copy)]
 pub struct Chunk<'a> {
@@ -13,7 +13,7 @@ pub struct Chunk<'a> {
     pub done: u64,
     /// The octets after them.
     pub octets: &'a [u8],
-    /// The recording ends behind them.
+    /// The recording ends after them.
     pub last: bool,
 }
 
@@ -59,7 +59,7 @@ impl BufferedSource for Chunk<'_> {
     fn pass_over(&mut self, octets: u64) -> Result<bool, DeviceFailed>
         ensures octets { PassesOver (Some (replicate self.old.done 0 ++ self.old.octets.now))
             (Some (replicate self.new.done 0 ++ self.new.octets.now)) octets result }
-        ensures counts { Counts 0 0 result }
+        ensures counts { CountsFailures 0 0 result }
         ensures passed { IfOk result (λ did. octets ≤ self.old.done → did ≡ true) }
     {
         if self.done < octets {

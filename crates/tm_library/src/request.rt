@@ -79,7 +79,7 @@ fn keep(alloc: Global, job: Option<Job>, room: &mut [u8]) -> Result<usize, Refus
     Ok(octets.len())
 }
 
-// How many of so many octets are used, where a record has this size.
+// How many of `octets` are used, where a record has this size.
 fn used_octets(last: bool, size: usize, octets: usize) -> usize
     requires { 0 < size }
     ensures value { result ≡ used_octets last size octets }

@@ -35,11 +35,11 @@ short_reason_word reason.NoStart = omega arith
 short_reason_word reason.Version = omega arith
 short_reason_word reason.Length = omega arith
 
--- behind the last octet of a buffer there is none
+-- after the last octet of a buffer there is none
 pub nothing_behind : (buffer : List ℕ) → length buffer ≡ 320 → drop 320 buffer ≡ []
 nothing_behind buffer e = drop_all 320 buffer (omega arith)
 
--- how many octets stand behind a place of a buffer
+-- how many octets stand after a place of a buffer
 pub behind_begin : (begin : ℕ) (buffer : List ℕ) → length buffer ≡ 320 → length (drop begin buffer) ≡ 320 - begin
 behind_begin begin buffer e = omega (arith, length-drop begin buffer)
 

@@ -14,7 +14,7 @@ pub const NOTHING_HELD: &str = "no memory can be held here";
 // How many blocks are held at the most, beside the steps.
 const MOST_BLOCKS: usize = 262_144;
 
-// The steps: so many blocks of each of so many sizes, each size half of that before.
+// The steps: how many blocks of each size, and how many sizes. Each size is half of that before.
 const STEPS: usize = 448;
 
 const STEP_SIZES: usize = 14;

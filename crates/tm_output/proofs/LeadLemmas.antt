@@ -1,4 +1,4 @@
--- Octets written behind a lead.
+-- Octets written after a lead.
 use Rattle.std.proofs.Common.{◌≢◌, ℕ, List, [], ◌++◌, Option, sym, ap, ◌∙◌, append_assoc}
 use Rattle.std.specs.Io.KnownBytes.{Appends}
 use Rattle.std.proofs.KnownBytes.{Appends-trans}

@@ -5,7 +5,7 @@ use Rattle.std.specs.Io.KnownBytes.{Appends, Keeps}
 use Rattle.std.proofs.KnownBytes.{Appends-kept, Appends-nil, Appends-trans}
 use Rattle.std.proofs.lemmas.List.{map-append}
 use Rattle.std.specs.Result.{OnErr}
-use Rattle.tm_devices.specs.Devices.{AppendsPrefix, Counts, raised}
+use Rattle.tm_devices.specs.Devices.{AppendsPrefix, CountsFailures, raised}
 use Rattle.tm_faults.specs.declared.run.RunFault.{RunFault}
 use Rattle.tm_faults.specs.declared.run.RunFault.TheVariants.{Write}
 use Rattle.tm_output.specs.Outputs.{WantsMemory, octets_buffering, AppendsCut, Piece, Stopped, Took, View, Buffering, line_piece, line_pieces, outs, reports, view}
@@ -32,7 +32,7 @@ flush_stopped {old = old} {mid = mid} {new = new} {ps = ps} took kept buffering 
 
 pub flush_stopped_by : {T E : Type 0} {old : View (Option (List ℕ))} {mid : Option (List ℕ)} {failures : ℕ} {ps : List (Piece ℕ)}
     (new : Option (List ℕ)) (failures' : ℕ) → Took Appends old (view mid None failures 0) ps → Keeps mid new
-    → (buffering : Buffering) → buffering.flush ≡ true → (r : Result T E) → Counts failures failures' r
+    → (buffering : Buffering) → buffering.flush ≡ true → (r : Result T E) → CountsFailures failures failures' r
     → OnErr r (Stopped Appends buffering old (view new None failures' 0) ps Write)
 flush_stopped_by new failures' took kept buffering waits (Ok x) counts = tt
 flush_stopped_by new failures' took kept buffering waits (Err e) counts = flush_stopped took kept buffering waits counts
@@ -42,7 +42,7 @@ module _ (old new : View (Option (List ℕ))) where
   pub same_cut : (ps : List (Piece ℕ)) → new ≡ old → AppendsCut Appends old new ps
   same_cut ps same = rw same ([], [], cut_none ps, Appends-nil old.out, Appends-nil old.report)
 
--- ---- lines behind lines
+-- ---- lines after lines
 
 module _ (old mid new : View (Option (List ℕ))) (xs ys : List (List ℕ)) where
   pub lines_lines : Took Appends old mid (line_pieces xs) → Took Appends mid new (line_pieces ys) → Took Appends old new (line_pieces (xs ++ ys))

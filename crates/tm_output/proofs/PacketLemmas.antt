@@ -50,7 +50,7 @@ no_report entries seen channel first place header octets more is none silent =
     (sym (ap (note_lines seen channel header.application) (notes_one entries (record { channel = channel; header = header }) [] none))) in
     rw lines silent
 
--- a text that has nothing has nothing in front, and nothing behind that
+-- a text that has nothing has nothing in front, and nothing after that
 pub none_both : {A : Type 0} (xs ys : List A) → xs ++ ys ≡ [] → (xs ≡ []) × (ys ≡ [])
 none_both [] ys e = (refl, e)
 none_both (x ∷ xs) ys e = absurd (cc)

@@ -59,7 +59,7 @@ front_is limit n octets h e far =
 pub front_none : (limit : ℕ) (octets : List ℕ) → None ≡ front_header limit octets → front_packets limit octets ≡ []
 front_none limit octets e = front-none limit octets (header-none limit octets e)
 
--- packets, and others behind them
+-- packets, and others after them
 octets_of-append : (ps qs : List (List ℕ)) → octets_of (ps ++ qs) ≡ octets_of ps ++ octets_of qs
 octets_of-append [] qs = refl
 octets_of-append (p ∷ ps) qs = ap (λ (l : List ℕ). p ++ l) (octets_of-append ps qs) ∙ sym (append_assoc p (octets_of ps) (octets_of qs))
@@ -151,7 +151,7 @@ none_accepted takes limit s t span same = record {
 
 -- ---- taken
 
--- the list is a front and what is behind it, by where the front ends
+-- the list is a front and what is after it, by where the front ends
 front_by : {A : Type 0} (xs ys prefix rest : List A) → xs ++ ys ≡ prefix ++ rest → length xs ≤ length prefix
     → (more : List A) × (prefix ≡ xs ++ more) × (ys ≡ more ++ rest)
 front_by {A} xs ys prefix rest e h =

@@ -57,7 +57,7 @@ report_of entries (Packet seen channel first place octets) =
     note_lines seen channel (packet_header_of octets).application (notes_of entries (sent channel octets))
 report_of entries x = item_line x
 
--- what is given of an item: to `out`, and to the report behind the item's line or notes; and whether it counts as a packet that is given
+-- what is given of an item: to `out`, and to the report after the item's line or notes; and whether it counts as a packet that is given
 pub record Texts (A : Type 0) : Type 0 where
   pub out : Item → List A
   pub remark : Item → List ℕ
@@ -79,7 +79,7 @@ abbrev pub packet_lead : (seen channel first place size : ℕ) → List ℕ
 packet_lead seen channel first place size =
     to_le_bytes w32 seen ++ to_le_bytes w32 first ++ to_le_bytes w16 place ++ channel ∷ 0 ∷ to_le_bytes w32 size
 
--- the octets of a packet behind them
+-- the octets of a packet after them
 unfoldable pub binary_packet : Item → List ℕ
 binary_packet (Packet seen channel first place octets) = packet_lead seen channel first place (length octets) ++ octets
 binary_packet _ = []

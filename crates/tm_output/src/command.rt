@@ -9,7 +9,7 @@ pub enum Command<'a> {
     Extract,
     /// A line for each.
     Packets,
-    /// Behind a head, a row for each packet of this application that has all bits of the definition's fields.
+    /// After a head, a row for each packet of this application that has all bits of the definition's fields.
     Fields(&'a Definition, u16),
     /// For each 16 octets, and then its own. First come the record that completes it and the one in which it begins, in four octets
     /// each, and its place there in two. Then come its channel, a zero, and in four octets how many it has. Numbers have the least

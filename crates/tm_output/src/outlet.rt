@@ -7,7 +7,7 @@ ghost use Rattle.std.proofs.KnownBytes.{Appends-nil, Appends-trans};
 ghost use Rattle.tm_items.specs.Among.{is_packet_item};
 ghost use Rattle.tm_items.specs.Item.{Item};
 ghost use Rattle.tm_items.specs.Fronts.{octets_of, placed};
-ghost use Rattle.tm_devices.specs.Devices.{AppendsPrefix, Counts, raised};
+ghost use Rattle.tm_devices.specs.Devices.{AppendsPrefix, CountsFailures, raised};
 ghost use Rattle.tm_output.specs.FieldRows.{tabled};
 ghost use Rattle.tm_output.specs.Packets.{HasHeader, item_with};
 ghost use Rattle.tm_output.specs.code.Outlets.{GivesNone, PutStopped, appends_split, binary_none, listed_none, octets_joined, octets_none, packet_none};
@@ -93,7 +93,7 @@ pub trait Outlet {
         ensures kept { Self.grows (Self.held self.old) (Self.held self.new) [] }
         ensures passed { OnOk result (Self.passed self.new) }
         ensures failed { OnErr result (Self.buffering.flush ≡ true) }
-        ensures counts { Counts (Self.failures self.old) (Self.failures self.new) result };
+        ensures counts { CountsFailures (Self.failures self.old) (Self.failures self.new) result };
 
     /// Packets that lie end to end may be put at once.
     ghost can_join: { Bool };
@@ -148,7 +148,7 @@ pub trait PacketText {
         ensures whole { OnOk result (Appends (W.written out.old) (W.written out.new) (text (item_with packet.now))) }
         ensures prefix { OnErr result (AppendsPrefix (W.written out.old) (W.written out.new)
             (text (item_with packet.now))) }
-        ensures counts { Counts (W.failures out.old) (W.failures out.new) result };
+        ensures counts { CountsFailures (W.failures out.old) (W.failures out.new) result };
 
     /// An item that has a line has no text here.
     ghost text_none: { (x : Item) → HasLine x → text x ≡ [] };
@@ -228,7 +228,7 @@ fn packet_lead(packet: &Packet<'_>) -> [u8; 16]
     ]
 }
 
-/// A packet's octets in the binary form, behind those that tell where it was found.
+/// A packet's octets in the binary form, after those that tell where it was found.
 #[derive(Drop)]
 pub struct BinaryPackets;
 

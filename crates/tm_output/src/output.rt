@@ -40,7 +40,7 @@ pub struct Output<'a, O, V> {
     pub totals: Totals,
 }
 
-// Makes the line of a note behind others.
+// Makes the line of a note after others.
 fn push_note(
     lines: &mut Vec<u8>,
     seen: u32,

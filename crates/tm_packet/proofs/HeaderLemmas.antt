@@ -25,7 +25,7 @@ part_front (x ∷ []) from to octets room ordered inside = absurd (omega arith)
 part_front (x ∷ y ∷ zs) from to octets room ordered inside =
     rw (part-word 2 (x ∷ y ∷ zs) from to room ordered inside, number_of_two x y (octets.below 0) (octets.below 1)) refl
 
--- a part of two octets behind k octets
+-- a part of two octets after k octets
 pub part_in_word : (k : ℕ) (octets : List ℕ) (from to : ℕ) → AreOctets octets → k + 2 ≤ length octets → from ≤ to → to ≤ 16
     → part octets (8 * k + from) (8 * k + to) ≡ (256 * get_or octets k 0 + get_or octets (k + 1) 0) / 2 ^ (16 - to) % 2 ^ (to - from)
 part_in_word k octets from to are room ordered inside =

@@ -1,7 +1,7 @@
 -- The sequence notes of one pair of channel and application, by sequence flags and counts (CCSDS 133.0-B-2, section 4.1.3.4).
 --
 -- A member has a gap where its count is not the one before it plus 1. A group is a member with flags first, and the longest
--- stretch of continuations without a gap behind it (`group_of`). The member behind the stretch decides what becomes of the group
+-- stretch of continuations without a gap after it (`group_of`). The member after the stretch decides what becomes of the group
 -- (`decided`). A last without a gap makes it whole; any other breaks it, by its gap if it has one, else by its flags. A group
 -- that no member follows is open (`open_at_end`). A continuation or last in no group is a stray. Each note is given at the member
 -- that decides it.
@@ -116,13 +116,13 @@ stray flag.First count = []
 stray flag.Last count = Stray count flag.Last ∷ []
 stray flag.Unsegmented count = []
 
--- What comes after a group decides it: the head of the next stretch. Behind no group a continuation or last is a stray; so it is
--- behind a gap.
+-- What comes after a group decides it: the head of the next stretch. After no group a continuation or last is a stray; so it is
+-- after a gap.
 abbrev pub decided : Option Group → PairMember → List Note
 decided None m = stray m.flags m.count
 decided (Some g) m = if has_packet_gap m then Broken g.first g.last why.Gap ∷ stray m.flags m.count else end_notes g m.flags m.count
 
--- the notes of a stretch's head, behind a stretch that is this group or none
+-- the notes of a stretch's head, after a stretch that is this group or none
 abbrev pub head_notes : Option Group → PairMember → List Note
 head_notes before m = gap_notes m.expected m.count ++ decided before m
 
@@ -131,7 +131,7 @@ abbrev pub rest_notes : Option ℕ → PairMember → List Note
 rest_notes None m = stray m.flags m.count
 rest_notes (Some first) m = []
 
--- the notes of the stretches' members, behind a stretch that is this group or none
+-- the notes of the stretches' members, after a stretch that is this group or none
 abbrev pub notes_of_stretches : Option Group → List Stretch → List (List Note)
 notes_of_stretches before [] = []
 notes_of_stretches before (p ∷ ps) =

@@ -12,7 +12,7 @@ const NONE: u16 = 0xFFFF;
 /// The place of a pair's entry, which is read and written at once.
 #[derive(Clone, Copy)]
 pub struct PairPlace {
-    // The first count of the open group, and behind it the last count. Each is FFFF where there is none.
+    // The first count of the open group, then the last count. Each is FFFF where there is none.
     counts: u32,
 }
 

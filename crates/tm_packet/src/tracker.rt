@@ -261,7 +261,7 @@ impl Tracker {
         count
     }
 
-    // Appends the entries, so many, for which there is room. What lies behind the last of them isn't looked at.
+    // Appends `count` entries, for which there is room. What lies after the last of them isn't looked at.
     #[tactic(auto, using(std::proofs::lemmas::List::nil_from_length))]
     fn push_entries(&self, count: usize, out: &mut Vec<u8>)
         requires all { count ≡ length (entries_from 0 self.now) }

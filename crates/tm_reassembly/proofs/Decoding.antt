@@ -30,12 +30,12 @@ long form.WithMaster rules xs h = cond-false (ltb (length xs) 4) _ _ (le-ltb (le
 long form.WithoutMaster rules xs h = cond-false (ltb (length xs) 4) _ _ (le-ltb (length xs) 4 h)
 
 module _ (form : Form) (rules : Rules) (xs : List ℕ) (there : 4 ≤ length xs) where
-  -- the octets behind the number of records, as the code takes them
+  -- the octets after the number of records, as the code takes them
   pub decoding_master : (found : StateFault) → master_read_in form (take (length xs - 4) (drop 4 xs)) ≡ Err found → decoding_in form rules xs ≡ Err found
   decoding_master found e =
       long form rules xs there ∙ ap (with_master rules (four_at xs 0) (drop 4 xs)) (ap (master_read_in form) (sym (take_rest xs 4)) ∙ e)
 
-  -- and those behind the master channel count
+  -- and those after the master channel count
   pub decoding_behind : (records used : ℕ) (master : Option ℕ) → records ≡ four_at xs 0
       → master_read_in form (take (length xs - 4) (drop 4 xs)) ≡ Ok (record { count = master; octets = used })
       → with_channels records master (4 + used) (blocks_read rules records 8 0 (take (length xs - (4 + used)) (drop (4 + used) xs))) ≡ decoding_in form rules xs

@@ -109,7 +109,7 @@ gap_examples : GapExamples
 unfolding items after base layout channel_1 fifty_fives packet cut given under of_channel_1 left fault_of part number bits_of low_bits
 gap_examples = record { frame_gap = refl; frame_twice = refl; vca_frame = refl; vca_frame_with_gap = refl; bad_frame = refl; no_records = refl }
 
--- a frame whose error control doesn't hold, behind one that is idle
+-- a frame whose error control doesn't hold, after one that is idle
 damaged : items (record { layout = record layout { frame_length = 9; error_control = true }; channels = all_channels; max_packet = 65542 }) empty
     ((0x02 ∷ 0xA0 ∷ 0 ∷ 0 ∷ 0x1F ∷ 0xFE ∷ 0x55 ∷ 0x25 ∷ 0xC9 ∷ []) ∷ (0x02 ∷ 0xA0 ∷ 0 ∷ 0 ∷ 0x1F ∷ 0xFE ∷ 0x54 ∷ 0x25 ∷ 0xC9 ∷ []) ∷ [])
     ≡ Bad 1 Crc ∷ []

@@ -4,7 +4,7 @@ use Rattle.std.specs.List.{slice_get}
 use Rattle.std.proofs.lemmas.List.{append-nil}
 use Rattle.std.proofs.lemmas.Bool.{cases_lt, lt-leb, le-leb, and_right}
 use Rattle.tm_reassembly.specs.State.{State, Last, Tail}
-use Rattle.tm_reassembly.specs.Readings.{Reading}
+use Rattle.tm_reassembly.specs.Readings.{FrameReading}
 use Rattle.tm_reassembly.specs.Chain.{ChainMember, Run, Runs, stem_of, stem_with, chain, frames, member_of, has_frame_gap, runs, runs_after, with_member, cut_before}
 use Rattle.tm_reassembly.specs.code.Fits.{AllReadingsFit, PlaceFits, PlacesFit, IsPlaced}
 use Rattle.tm_bits.proofs.Each.{Each, Each-append, Each-split, Each-at, Each-weaken}
@@ -39,14 +39,14 @@ grow-after before [] more = ((runs_after before more).current.members, refl, ref
 grow-after before (m ∷ ms) more =
     grow-with (has_frame_gap before m) m.is_vca m _ _ (grow-after (Some m.count) ms more)
 
-frames-append : (c k : ℕ) (rs qs : List Reading) → frames c k (rs ++ qs) ≡ frames c k rs ++ frames c (k + length rs) qs
+frames-append : (c k : ℕ) (rs qs : List FrameReading) → frames c k (rs ++ qs) ≡ frames c k rs ++ frames c (k + length rs) qs
 frames-append c k [] qs = ap (λ (n : ℕ). frames c n qs) (omega arith)
 frames-append c k (r ∷ rs) qs =
     ap (λ (ms : List ChainMember). member_of c k r ++ ms)
     (frames-append c (k + 1) rs qs ∙ ap (λ (n : ℕ). frames c (k + 1) rs ++ frames c n qs) (omega arith))
     ∙ sym (append_assoc (member_of c k r) (frames c (k + 1) rs) (frames c (k + length (r ∷ rs)) qs))
 
-chain-append : (s : State) (c : ℕ) (rs qs : List Reading) → chain s c (rs ++ qs) ≡ chain s c rs ++ frames c (s.records + length rs) qs
+chain-append : (s : State) (c : ℕ) (rs qs : List FrameReading) → chain s c (rs ++ qs) ≡ chain s c rs ++ frames c (s.records + length rs) qs
 chain-append s c rs qs =
     ap (λ (ms : List ChainMember). stem_of (slice_get s.channels c) ++ ms) (frames-append c s.records rs qs)
     ∙ sym (append_assoc (stem_of (slice_get s.channels c)) (frames c s.records rs) _)
@@ -78,7 +78,7 @@ fit-stem (Some (Some last)) = with_tail last.tail
     with_tail None = (tt, tt)
     with_tail (Some t) = (omega arith, tt)
 
-pub chain-fit : (s : State) (c : ℕ) (rs : List Reading) → AllReadingsFit rs → PlacesFit (chain s c rs)
+pub chain-fit : (s : State) (c : ℕ) (rs : List FrameReading) → AllReadingsFit rs → PlacesFit (chain s c rs)
 chain-fit s c rs fits =
     Each-append IsPlaced (stem_of (slice_get s.channels c)) (frames c s.records rs) (fit-stem (slice_get s.channels c))
     (Each-weaken (λ m. (s.records ≤ m.number) × IsPlaced m) IsPlaced (frames c s.records rs) (λ m p. p.1) (frames-fit c s.records rs fits))
@@ -100,7 +100,7 @@ runs-fit before [] h = (tt, tt)
 runs-fit before (m ∷ ms) h =
     fit-with (has_frame_gap before m) m.is_vca m _ h.0 (runs-fit (Some m.count) ms h.1)
 
-pub run-places : (s : State) (c : ℕ) (rs : List Reading) → AllReadingsFit rs → (i : ℕ) (r : Run) → slice_get (runs (chain s c rs)) i ≡ Some r
+pub run-places : (s : State) (c : ℕ) (rs : List FrameReading) → AllReadingsFit rs → (i : ℕ) (r : Run) → slice_get (runs (chain s c rs)) i ≡ Some r
     → PlacesFit r.members
 run-places s c rs fits i r at =
     let all = runs-fit None (chain s c rs) (chain-fit s c rs fits) in Each-at (λ r. PlacesFit r.members) (runs (chain s c rs)) i r (all.0, all.1) at

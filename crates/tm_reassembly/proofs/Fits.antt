@@ -14,7 +14,7 @@ use Rattle.tm_frame.specs.Fault.{fault_of, frame_reading_of, good_unless}
 use Rattle.tm_frame.specs.Frame.{GoodFrame, IsPlaceBelow, good_frame, frame_of}
 use Rattle.tm_frame.specs.Frame as frame
 use Rattle.tm_frame.proofs.FaultLemmas.{place_inside}
-use Rattle.tm_reassembly.specs.Readings.{Reading}
+use Rattle.tm_reassembly.specs.Readings.{FrameReading}
 use Rattle.tm_reassembly.specs.Chain.{start_place_of, counted_field}
 use Rattle.tm_reassembly.specs.Recording.{readings}
 use Rattle.tm_reassembly.specs.code.Fits.{PlaceFits, IsFit, AllReadingsFit}
@@ -63,7 +63,7 @@ good-fit layout octets none = (
 )
 
 -- what holds of each fault and of the good frame holds of what is read
-reading-by : (P : Reading → Type 0) (layout : LayoutParts) (octets : List ℕ) → ((fault : FrameFault) → P (Err fault))
+reading-by : (P : FrameReading → Type 0) (layout : LayoutParts) (octets : List ℕ) → ((fault : FrameFault) → P (Err fault))
     → (fault_of layout (frame_of layout octets) ≡ None → P (Ok (good_frame layout (frame_of layout octets)))) → P (frame_reading_of layout octets)
 reading-by P layout octets bad good = by_fault (fault_of layout (frame_of layout octets)) refl
   where
@@ -89,7 +89,7 @@ pub record IsGood (layout : LayoutParts) (f : GoodFrame) : Type 0 where
   pub octets : AreOctets f.field
   pub most : 0 < length f.field → length f.field + 6 ≤ layout.frame_length
 
-abbrev pub IsRead : LayoutParts → Reading → Type 0
+abbrev pub IsRead : LayoutParts → FrameReading → Type 0
 IsRead layout (Err fault) = Unit {0}
 IsRead layout (Ok f) = IsGood layout f
 

@@ -6,7 +6,7 @@ use Rattle.tm_items.specs.Among.{Among}
 use Rattle.tm_reassembly.specs.Chain.{ChainMember, has_frame_gap, member, master_member}
 use Rattle.tm_items.specs.Item.{Item, Packet}
 use Rattle.tm_reassembly.specs.Items.{master_gap_item, gap_item, gap_at, vca_at, items_of_readings, state_after_readings}
-use Rattle.tm_reassembly.specs.Readings.{Reading}
+use Rattle.tm_reassembly.specs.Readings.{FrameReading}
 use Rattle.tm_reassembly.specs.Recording as raw
 use Rattle.tm_frame.specs.Rules.{Rules, chooses}
 use Rattle.tm_reassembly.specs.State.{State, Tail}
@@ -35,7 +35,7 @@ module _ (limit : ℕ) where
       (part_items-each Limited limit channel m.number (λ p most. most) (λ p reason. tt) _ (chain_parts_at-at limit (has_frame_gap before m) m.is_vca tail m))
 
   module _ (chosen : ℕ → Bool) where
-    each-record : (s : State) (r : Reading) → HasOpenTails limit chosen s → IsFit r → Each Limited (items_of_readings limit chosen s (r ∷ []))
+    each-record : (s : State) (r : FrameReading) → HasOpenTails limit chosen s → IsFit r → Each Limited (items_of_readings limit chosen s (r ∷ []))
     each-record s (Err fault) v fit = (tt, tt)
     each-record s (Ok g) v fit =
         ⊎_elim
@@ -47,7 +47,7 @@ module _ (limit : ℕ) where
         (λ e. subst (Each Limited) (sym (items-other limit chosen s g e)) (each-master s.master (master_member s.records g)))
         (cases_Bool (chosen g.channel))
 
-    each-item : (s : State) (rs : List Reading) → HasOpenTails limit chosen s → AllReadingsFit rs → Each Limited (items_of_readings limit chosen s rs)
+    each-item : (s : State) (rs : List FrameReading) → HasOpenTails limit chosen s → AllReadingsFit rs → Each Limited (items_of_readings limit chosen s rs)
     each-item s [] v fits = tt
     each-item s (r ∷ rs) v fits =
         subst (Each Limited) (sym (items-cons limit chosen s r v fits.0 rs fits.1))

@@ -11,7 +11,7 @@ use Rattle.std.proofs.lemmas.List.{append-nil, length-map}
 use Rattle.std.proofs.lemmas.List.Elements.{filter-append}
 use Rattle.tm_frame.specs.Frame.{GoodFrame}
 use Rattle.tm_frame.specs.Fault.{frame_reading_of}
-use Rattle.tm_reassembly.specs.Readings.{Reading}
+use Rattle.tm_reassembly.specs.Readings.{FrameReading}
 use Rattle.tm_reassembly.specs.State.{State, Last}
 use Rattle.tm_items.specs.Item as item
 use Rattle.tm_items.specs.Item.{Item, seen_of}
@@ -30,20 +30,20 @@ use Rattle.tm_reassembly.proofs.Fits.{readings-fit}
 use Rattle.tm_reassembly.proofs.OneStep.{open-at, valid-from}
 
 -- the record of this number is a good frame of the channel, where the records are numbered from k on
-abbrev pub IsFrame : ℕ → ℕ → List Reading → ℕ → Type 0
+abbrev pub IsFrame : ℕ → ℕ → List FrameReading → ℕ → Type 0
 IsFrame c k rs n = (i : ℕ) × (g : GoodFrame) × (n ≡ k + i) × (slice_get rs i ≡ Some (Ok g)) × (g.channel ≡ c)
 
-next-frame : (c k : ℕ) (r : Reading) (rs : List Reading) (n : ℕ) → IsFrame c (k + 1) rs n → IsFrame c k (r ∷ rs) n
+next-frame : (c k : ℕ) (r : FrameReading) (rs : List FrameReading) (n : ℕ) → IsFrame c (k + 1) rs n → IsFrame c k (r ∷ rs) n
 next-frame c k r rs n h = let e = h.2 in (suc h.0, h.1, omega arith, h.3, h.4)
 
-frames-numbered : (c k : ℕ) (rs : List Reading) → AllReadingsFit rs → AllNumbered (IsFrame c k rs) (frames c k rs)
+frames-numbered : (c k : ℕ) (rs : List FrameReading) → AllReadingsFit rs → AllNumbered (IsFrame c k rs) (frames c k rs)
 frames-numbered c k [] h = tt
 frames-numbered c k (r ∷ rs) h =
     Each-append (λ m. IsFrame c k (r ∷ rs) m.number × PlaceFits m.place (length m.field)) (member_of c k r) (frames c (k + 1) rs) (own r h.0)
     (Each-weaken (λ m. IsFrame c (k + 1) rs m.number × PlaceFits m.place (length m.field)) (λ m. IsFrame c k (r ∷ rs) m.number × PlaceFits m.place (length m.field))
     (frames c (k + 1) rs) (λ m p. (next-frame c k r rs m.number p.0, p.1)) (frames-numbered c (k + 1) rs h.1))
   where
-    own : (r : Reading) → IsFit r → Each (λ m. IsFrame c k (r ∷ rs) m.number × PlaceFits m.place (length m.field)) (member_of c k r)
+    own : (r : FrameReading) → IsFit r → Each (λ m. IsFrame c k (r ∷ rs) m.number × PlaceFits m.place (length m.field)) (member_of c k r)
     own (Err fault) k = tt
     own (Ok g) fit =
         Each-cond (λ m. IsFrame c k (Ok g ∷ rs) m.number × PlaceFits m.place (length m.field)) (eqb g.channel c) _
@@ -113,7 +113,7 @@ seen-exact n xs =
     Each-weaken (λ x. eqb (seen_of x) n ≡ true) (λ x. seen_of x ≡ n) (seen_at n xs) (λ x e. eqb-true (seen_of x) n e) (filter-passes (λ x. eqb (seen_of x) n) xs)
 
 -- the items of a channel are seen at good frames of it
-channel-seen : (rules : Rules) (s : State) → IsValidState rules s → (c : ℕ) (rs : List Reading) → AllReadingsFit rs
+channel-seen : (rules : Rules) (s : State) → IsValidState rules s → (c : ℕ) (rs : List FrameReading) → AllReadingsFit rs
     → AllSeen (IsFrame c s.records rs) (channel_items rules.max_packet c (chain s c rs))
 channel-seen rules s v c rs fits =
     let x : Option (Option Last) = slice_get s.channels c in
@@ -124,7 +124,7 @@ pub seen-in_time : (rules : Rules) (s : State) (records : List (List ℕ)) → I
     → (c : ℕ) (x : Item) → Among x (channel_items rules.max_packet c (chain s c (readings rules.layout records)))
     → (s.records ≤ seen_of x) × (seen_of x < s.records + length records)
 seen-in_time rules s records v c x a =
-    let rs : List Reading = readings rules.layout records in
+    let rs : List FrameReading = readings rules.layout records in
     let f = among-each (λ y. IsFrame c s.records rs (seen_of y)) x _ (channel-seen rules s v c rs (readings-fit rules.layout records)) a in
     let inside : f.0 < length (readings rules.layout records) = slice_get_within (readings rules.layout records) f.0 (Ok f.1) f.3 in
     (omega (arith, f.2, length-map records (frame_reading_of rules.layout)), omega (arith, f.2, length-map records (frame_reading_of rules.layout)))
@@ -138,9 +138,9 @@ module _ (limit : ℕ) where
       (vcas-each (λ m. Unit {0}) (λ x. is_of c x ≡ true) c (λ m h. eq-eqb c c refl) ms (Each-every (λ m. Unit {0}) ms (λ m. tt))))
       (parts-of c (chain_parts limit ms))
 
-  module _ (chosen : ℕ → Bool) (s : State) (all : List Reading) where
+  module _ (chosen : ℕ → Bool) (s : State) (all : List FrameReading) where
     -- the items of a record are seen at it
-    pub record-exact : (k : ℕ) (r : Reading) → AllSeen (λ m. m ≡ k) (record_items limit chosen s all k r)
+    pub record-exact : (k : ℕ) (r : FrameReading) → AllSeen (λ m. m ≡ k) (record_items limit chosen s all k r)
     record-exact k (Err fault) = (refl, tt)
     record-exact k (Ok g) =
         Each-append (λ x. seen_of x ≡ k) (seen_at k (master_items (master_chain s all))) _ (seen-exact k (master_items (master_chain s all)))
@@ -160,7 +160,7 @@ module _ (limit : ℕ) where
         (cases_Bool (chosen g.channel))
 
     -- and what is there and of a channel is one of its items
-    from-record : (k : ℕ) (r : Reading) (c : ℕ) (x : Item) → is_of c x ≡ true → Among x (record_items limit chosen s all k r)
+    from-record : (k : ℕ) (r : FrameReading) (c : ℕ) (x : Item) → is_of c x ≡ true → Among x (record_items limit chosen s all k r)
         → (chosen c ≡ true) × Among x (channel_items limit c (chain s c all))
     from-record k (Err fault) c x own (inl e) = absurd (true≢false (sym own ∙ ap (is_of c) e))
     from-record k (Err fault) c x own (inr a) = absurd a
@@ -172,7 +172,7 @@ module _ (limit : ℕ) where
         (of_frame k g c x own)
         (among-either x (seen_at k (master_items (master_chain s all))) _ a)
 
-    from-merged : (k : ℕ) (rs : List Reading) (c : ℕ) (x : Item) → is_of c x ≡ true → Among x (merged limit chosen s all k rs)
+    from-merged : (k : ℕ) (rs : List FrameReading) (c : ℕ) (x : Item) → is_of c x ≡ true → Among x (merged limit chosen s all k rs)
         → (chosen c ≡ true) × Among x (channel_items limit c (chain s c all))
     from-merged k [] c x own a = absurd a
     from-merged k (r ∷ rs) c x own a =
@@ -185,7 +185,7 @@ unfolding items
 told-channel rules s records c x own a = from-merged rules.max_packet (chooses rules) s (readings rules.layout records) s.records (readings rules.layout records) c x own a
 
 module _ (limit : ℕ) where
-  module _ (chosen : ℕ → Bool) (s : State) (all : List Reading) (c : ℕ) (is_chosen : chosen c ≡ true) (n : ℕ) where
+  module _ (chosen : ℕ → Bool) (s : State) (all : List FrameReading) (c : ℕ) (is_chosen : chosen c ≡ true) (n : ℕ) where
     -- the items of a channel that are seen at n, among some items, and among all of its own
     abbrev Here : List Item → List Item
     Here xs = seen_at n (of_channel c xs)
@@ -197,11 +197,11 @@ module _ (limit : ℕ) where
     here-append xs ys = ap (seen_at n) (filter-append (λ x. is_of c x) xs ys) ∙ filter-append (λ x. eqb (seen_of x) n) (of_channel c xs) (of_channel c ys)
 
     -- another record
-    record-there : (k : ℕ) (r : Reading) → (k ≡ n → ⊥) → Here (record_items limit chosen s all k r) ≡ []
+    record-there : (k : ℕ) (r : FrameReading) → (k ≡ n → ⊥) → Here (record_items limit chosen s all k r) ≡ []
     record-there k r ne =
         none_other k n _ ne (Each-filter (λ x. seen_of x ≡ k) (λ x. is_of c x) _ (record-exact limit chosen s all k r))
 
-    -- what stands behind a master gap
+    -- what stands after a master gap
     past-master : (k : ℕ) (xs : List Item) → Here (seen_at k (master_items (master_chain s all)) ++ xs) ≡ Here xs
     past-master k xs =
         here-append (seen_at k (master_items (master_chain s all))) xs ∙ ap (λ (ys : List Item). seen_at n ys ++ Here xs) (none-filter (λ x. is_of c x) (λ x. eqb (seen_of x) k) _ (masters-of c (master_chain s all)))
@@ -226,11 +226,11 @@ module _ (limit : ℕ) where
         (seen_at-all n (seen_at n xs) (seen-exact n xs))
 
     -- the record is a frame of the channel, and its items are there, or it is none
-    abbrev Either : ℕ → List Reading → Type 0
+    abbrev Either : ℕ → List FrameReading → Type 0
     Either k rs =
         (IsFrame c k rs n × (Here (merged limit chosen s all k rs) ≡ Own)) ⊎ ((IsFrame c k rs n → ⊥) × (Here (merged limit chosen s all k rs) ≡ []))
 
-    at_it : (k : ℕ) (r : Reading) (rs : List Reading) → k ≡ n → Here (merged limit chosen s all (k + 1) rs) ≡ [] → Either k (r ∷ rs)
+    at_it : (k : ℕ) (r : FrameReading) (rs : List FrameReading) → k ≡ n → Here (merged limit chosen s all (k + 1) rs) ≡ [] → Either k (r ∷ rs)
     at_it k (Err fault) rs e rest = inr (no, here-append (record_items limit chosen s all k (Err fault)) (merged limit chosen s all (k + 1) rs) ∙ rest)
       where
         no : IsFrame c k (Err fault ∷ rs) n → ⊥
@@ -247,7 +247,7 @@ module _ (limit : ℕ) where
         no other (zero, f, at, there, own) = let same : g ≡ f = cc in other (ap (λ (z : GoodFrame). z.channel) same ∙ own)
         no other (suc i, f, at, there, own) = omega arith
 
-    before-it : (k : ℕ) (r : Reading) (rs : List Reading) → (k ≡ n → ⊥) → Either (k + 1) rs → Either k (r ∷ rs)
+    before-it : (k : ℕ) (r : FrameReading) (rs : List FrameReading) → (k ≡ n → ⊥) → Either (k + 1) rs → Either k (r ∷ rs)
     before-it k r rs ne rest =
         let same : Here (merged limit chosen s all k (r ∷ rs)) ≡ Here (merged limit chosen s all (k + 1) rs) =
         here-append (record_items limit chosen s all k r) (merged limit chosen s all (k + 1) rs)
@@ -258,7 +258,7 @@ module _ (limit : ℕ) where
         no not_later (zero, g, at, there, own) = ne (omega arith)
         no not_later (suc i, g, at, there, own) = not_later (i, g, omega arith, there, own)
 
-    either : (k : ℕ) (rs : List Reading) → Either k rs
+    either : (k : ℕ) (rs : List FrameReading) → Either k rs
     either k [] = inr (λ f. none-some (Ok f.1) f.3, refl)
     either k (r ∷ rs) =
         ⊎_elim
@@ -273,7 +273,7 @@ pub channel-in_order : (rules : Rules) (s : State) (records : List (List ℕ)) �
     → seen_at n (filter (λ x. is_of c x) (items rules s records)) ≡ seen_at n (channel_items rules.max_packet c (chain s c (readings rules.layout records)))
 unfolding items
 channel-in_order rules s records v c is_chosen n =
-    let rs : List Reading = readings rules.layout records in
+    let rs : List FrameReading = readings rules.layout records in
     let xs : List Item = channel_items rules.max_packet c (chain s c (readings rules.layout records)) in
     ⊎_elim
     (λ h. h.1)
@@ -319,7 +319,7 @@ module _ (limit : ℕ) (chosen : ℕ → Bool) where
       ∙ rw (filter-none is_master_gap (own_items limit chosen s g) (own-none s g), append-nil)
       (filter-all is_master_gap gap (gap-each (λ x. is_master_gap x ≡ true) master_gap_item s.master (master_member s.records g) (λ expected. refl)))
 
-  all-in : (s : State) (rs : List Reading) → HasOpenTails limit chosen s → AllReadingsFit rs
+  all-in : (s : State) (rs : List FrameReading) → HasOpenTails limit chosen s → AllReadingsFit rs
       → masters_in (read.items_of_readings limit chosen s rs) ≡ gaps master_gap_item s.master (master_frames s.records rs)
   all-in s [] v fits = refl
   all-in s (Err fault ∷ rs) v fits =

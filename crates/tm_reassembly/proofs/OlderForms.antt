@@ -4,7 +4,7 @@ use Rattle.std.proofs.lemmas.Bool.{cases_Bool, eq-eqb, le-ltb}
 use Rattle.std.specs.Prelude.{◌||◌, not}
 use Rattle.tm_frame.specs.Frame.{GoodFrame}
 use Rattle.tm_reassembly.specs.declared.fault.StateFault.{StateFault}
-use Rattle.tm_reassembly.specs.Readings.{Reading}
+use Rattle.tm_reassembly.specs.Readings.{FrameReading}
 use Rattle.tm_reassembly.specs.State.{State}
 use Rattle.tm_reassembly.specs.Chain.{master_frames, master_member}
 use Rattle.tm_reassembly.specs.Checkpoint.{ReadBlocks, four_at, master_read, with_channels, state_decoding_of, old_decoding_of}
@@ -34,7 +34,7 @@ one-more records (Ok all) =
     ap (λ (n : ℕ). Ok (record { state = record { records = records; master = None; channels = all.channels }; octets = n })) more
 one-more records (Err found) = refl
 
--- with a 0 put in behind the number of records, the newer form reads what the older one reads without
+-- with a 0 put in after the number of records, the newer form reads what the older one reads without
 pub one-form : (rules : Rules) (a b : List ℕ) → length a ≡ 4 → state_decoding_of rules (a ++ 0 ∷ b) ≡ one_octet_more (old_decoding_of rules (a ++ b))
 unfolding state_decoding_of old_decoding_of master_read
 one-form rules (w ∷ x ∷ y ∷ z ∷ []) b h =
@@ -52,7 +52,7 @@ shape-of limit chosen s t e v = record {
 
 module _ (limit : ℕ) (chosen : ℕ → Bool) where
   -- the items of records that are numbered from k on are seen there
-  within : (s : State) (all : List Reading) (k : ℕ) (rs : List Reading) → AllSeen (λ n. (k ≤ n) × (n < k + length rs)) (merged limit chosen s all k rs)
+  within : (s : State) (all : List FrameReading) (k : ℕ) (rs : List FrameReading) → AllSeen (λ n. (k ≤ n) × (n < k + length rs)) (merged limit chosen s all k rs)
   within s all k [] = tt
   within s all k (r ∷ rs) =
       Each-append (λ x. (k ≤ seen_of x) × (seen_of x < k + length (r ∷ rs))) (record_items limit chosen s all k r) (merged limit chosen s all (k + 1) rs)
@@ -64,10 +64,10 @@ module _ (limit : ℕ) (chosen : ℕ → Bool) where
   abbrev StatesMeet : State → State → List Item → List Item → Type 0
   StatesMeet a b all fewer = (b ≡ a) ⊎ ((b ≡ without_master a) × (fewer ≡ all))
 
-  record Meet (s : State) (rs : List Reading) : Type 0 where
+  record Meet (s : State) (rs : List FrameReading) : Type 0 where
     the_items : LacksFirstGap s rs (items_of_readings limit chosen s rs) (items_of_readings limit chosen (without_master s) rs)
     the_states : StatesMeet (state_after_readings limit chosen s rs) (state_after_readings limit chosen (without_master s) rs) (items_of_readings limit chosen s rs) (items_of_readings limit chosen (without_master s) rs)
-    without_first : (later : List Reading) → items_of_readings limit chosen (without_master s) rs ≡ without_gaps_at (first_good_record s.records (rs ++ later)) (items_of_readings limit chosen s rs)
+    without_first : (later : List FrameReading) → items_of_readings limit chosen (without_master s) rs ≡ without_gaps_at (first_good_record s.records (rs ++ later)) (items_of_readings limit chosen s rs)
 
   -- the gap is left out
   gap-left : (s : State) (g : GoodFrame) → without_gaps_at (s.records ∷ []) (gap_at master_gap_item s.master (master_member s.records g)) ≡ []
@@ -86,7 +86,7 @@ module _ (limit : ℕ) (chosen : ℕ → Bool) where
       (λ e. after-other limit chosen (without_master s) g w fit e ∙ sym (after-other limit chosen s g v fit e))
       (cases_Bool (chosen g.channel))
 
-  meet : (s : State) (rs : List Reading) → HasShape limit chosen s → AllReadingsFit rs → Meet s rs
+  meet : (s : State) (rs : List FrameReading) → HasShape limit chosen s → AllReadingsFit rs → Meet s rs
   meet s [] v fits =
       let w : HasShape limit chosen (without_master s) = shape-of limit chosen s (without_master s) refl v in
       record {
@@ -161,7 +161,7 @@ pub without-first : (rules : Rules) (s : State) (records later : List (List ℕ)
 unfolding raw.items
 without-first rules s records later v =
     (meet rules.max_packet (chooses rules) s (raw.readings rules.layout records) v.shape (readings-fit rules.layout records)).without_first (raw.readings rules.layout later)
-    ∙ ap (λ (rs : List Reading). without_gaps_at (first_good_record s.records rs) (raw.items rules s records)) (sym (readings-append rules.layout records later))
+    ∙ ap (λ (rs : List FrameReading). without_gaps_at (first_good_record s.records rs) (raw.items rules s records)) (sym (readings-append rules.layout records later))
 
 -- the items of records are seen at them
 pub items-within : (rules : Rules) (s : State) (records : List (List ℕ))

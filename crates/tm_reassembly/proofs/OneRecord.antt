@@ -12,7 +12,7 @@ use Rattle.tm_frame.specs.declared.fault.FrameFault.{FrameFault}
 use Rattle.tm_frame.specs.Fault.{frame_reading_of}
 use Rattle.tm_frame.specs.Frame.{GoodFrame}
 use Rattle.tm_reassembly.specs.State.{State, Last, Tail, octets_in}
-use Rattle.tm_reassembly.specs.Readings.{Reading}
+use Rattle.tm_reassembly.specs.Readings.{FrameReading}
 use Rattle.tm_items.specs.Item.{Item, Bad}
 use Rattle.tm_reassembly.specs.Chain.{member, has_frame_gap, master_member}
 use Rattle.tm_reassembly.specs.code.Field.{chain_tail_at}
@@ -29,7 +29,7 @@ use Rattle.tm_reassembly.proofs.Joining.{before_of, tail_of, member_items}
 use Rattle.tm_reassembly.proofs.OneStep.{items-one-valid, valid-from, after-one, after-bad, items-other, after-other, open-at}
 
 -- what is read, and whether a channel is chosen, by rules that are equal to these
-pub read_as : {inside rules : Rules} (octets : List ℕ) {r : Reading} → inside ≡ rules → r ≡ frame_reading_of inside.layout octets → frame_reading_of rules.layout octets ≡ r
+pub read_as : {inside rules : Rules} (octets : List ℕ) {r : FrameReading} → inside ≡ rules → r ≡ frame_reading_of inside.layout octets → frame_reading_of rules.layout octets ≡ r
 read_as octets e f = ap (λ (r : Rules). frame_reading_of r.layout octets) (sym e) ∙ sym f
 
 pub chosen_as : {inside rules : Rules} (c : ℕ) {asked answer : Bool} → inside ≡ rules → asked ≡ chooses inside c → asked ≡ answer → chooses rules c ≡ answer
@@ -65,13 +65,13 @@ module _ (rules : Rules) (s : State) (v : IsValidState rules s) where
       ap (λ (x : Option Last). octets_in (tail_in x)) (same_Some _ _ (sym (there c d small) ∙ v.shape.only_chosen c other small))
 
   module _ (octets : List ℕ) where
-    as_read : {r : Reading} → frame_reading_of rules.layout octets ≡ r → items rules s (octets ∷ []) ≡ read.items_of_readings rules.max_packet (chooses rules) s (r ∷ [])
+    as_read : {r : FrameReading} → frame_reading_of rules.layout octets ≡ r → items rules s (octets ∷ []) ≡ read.items_of_readings rules.max_packet (chooses rules) s (r ∷ [])
     unfolding items
-    as_read e = ap (λ (r : Reading). read.items_of_readings rules.max_packet (chooses rules) s (r ∷ [])) e
+    as_read e = ap (λ (r : FrameReading). read.items_of_readings rules.max_packet (chooses rules) s (r ∷ [])) e
 
-    as_left : {r : Reading} → frame_reading_of rules.layout octets ≡ r → after rules s (octets ∷ []) ≡ read.state_after_readings rules.max_packet (chooses rules) s (r ∷ [])
+    as_left : {r : FrameReading} → frame_reading_of rules.layout octets ≡ r → after rules s (octets ∷ []) ≡ read.state_after_readings rules.max_packet (chooses rules) s (r ∷ [])
     unfolding after
-    as_left e = ap (λ (r : Reading). read.state_after_readings rules.max_packet (chooses rules) s (r ∷ [])) e
+    as_left e = ap (λ (r : FrameReading). read.state_after_readings rules.max_packet (chooses rules) s (r ∷ [])) e
 
     -- a bad record
     pub items_bad_record : (fault : FrameFault) → frame_reading_of rules.layout octets ≡ Err fault → Bad s.records fault ∷ [] ≡ items rules s (octets ∷ [])

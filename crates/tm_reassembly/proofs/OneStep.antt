@@ -7,7 +7,7 @@ use Rattle.std.proofs.lemmas.Bool.{cases_Bool, cases_eq, eq-eqb, ne_eqb, cond-tr
 use Rattle.tm_reassembly.specs.State.{State, Last, Tail}
 use Rattle.tm_frame.specs.Frame.{GoodFrame, is_vca_kind}
 use Rattle.tm_frame.specs.declared.fault.FrameFault.{FrameFault}
-use Rattle.tm_reassembly.specs.Readings.{Reading}
+use Rattle.tm_reassembly.specs.Readings.{FrameReading}
 use Rattle.tm_items.specs.Item as item
 use Rattle.tm_reassembly.specs.Chain.{ChainMember, has_frame_gap, member, member_of, master_member, master_stem}
 use Rattle.tm_reassembly.specs.code.Field.{chain_tail_at}
@@ -111,7 +111,7 @@ module _ (limit : ℕ) where
       ∙ items-here limit g.channel (before_of x) (tail_of x) m [] (valid.tails_open g.channel fit.0 is_chosen) fit.1 tt)
 
   -- a channel stays as it is where a record has no frame for it, and so does one that isn't chosen
-  channel-same : (chosen : ℕ → Bool) (s : State) (r : Reading) → HasShape limit chosen s → IsFit r → (c : ℕ) → c < 8 → (chosen c ≡ true → member_of c s.records r ≡ [])
+  channel-same : (chosen : ℕ → Bool) (s : State) (r : FrameReading) → HasShape limit chosen s → IsFit r → (c : ℕ) → c < 8 → (chosen c ≡ true → member_of c s.records r ≡ [])
       → slice_get (map (channel_after limit chosen s (r ∷ [])) eight) c ≡ slice_get s.channels c
   channel-same chosen s r v fit c small none =
       let valid = valid-from chosen s v in
@@ -162,7 +162,7 @@ module _ (limit : ℕ) where
           ∙ sym (get_set-other s.channels g.channel c (Some (last_moved s g)) ne)
 
   -- a record that has no frame of a chosen channel leaves all channels as they are
-  channels-same : (chosen : ℕ → Bool) (s : State) (r : Reading) → HasShape limit chosen s → IsFit r
+  channels-same : (chosen : ℕ → Bool) (s : State) (r : FrameReading) → HasShape limit chosen s → IsFit r
       → ((c : ℕ) → c < 8 → chosen c ≡ true → member_of c s.records r ≡ [])
       → state_after_readings limit chosen s (r ∷ []) ≡ record { records = s.records + 1; master = master_after s.master r; channels = s.channels }
   channels-same chosen s r v fit none =

@@ -1,4 +1,4 @@
--- How a field is read: whole packets that lie end to end, and what stands behind them.
+-- How a field is read: whole packets that lie end to end, and what stands after them.
 use Rattle.std.proofs.Common.{◌++◌, ◌≡◌, ℕ, suc, pred, ◌+◌, ◌-◌, ◌<◌, ◌≤◌, true, List, [], ◌∷◌, length, take, drop, refl, sym, ap, ◌∙◌, length-append, arith}
 use Rattle.std.proofs.lemmas.List.{length-drop, length-take-le, drop-drop, take_rest}
 use Rattle.tm_items.proofs.Reaching.{packet_length_least}
@@ -56,7 +56,7 @@ module _ (limit : ℕ) where
   none_whole : (t : List ℕ) → has_packet limit t ≡ false → HasNoWholePacket limit t
   none_whole t e = λ begins. grind (arith, nat_tests, packet_length_least)
 
-  -- A field from a place on: whole packets lie end to end in front, and none lies whole behind them.
+  -- A field from a place on: whole packets lie end to end in front, and none lies whole after them.
   pub record IsRead (seen channel : ℕ) (field : List ℕ) (at : ℕ) : Type 0 where
     pub inside : at + front_length limit (drop at field) ≤ length field
     pub items : items_from limit seen channel field at

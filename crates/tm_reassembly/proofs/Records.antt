@@ -9,7 +9,7 @@ use Rattle.std.proofs.lemmas.Bool.{cases_Bool, cond_both, eq-eqb, cond-true}
 pub use Rattle.tm_reassembly.specs.code.Fits.{IsFit, AllReadingsFit}
 use Rattle.tm_frame.specs.Frame.{GoodFrame}
 use Rattle.tm_reassembly.specs.State.{State, Last, Tail}
-use Rattle.tm_reassembly.specs.Readings.{Reading}
+use Rattle.tm_reassembly.specs.Readings.{FrameReading}
 use Rattle.tm_items.specs.Item.{Item}
 use Rattle.tm_reassembly.specs.Chain.{ChainMember, has_frame_gap, stem_of, stem_with, chain, frames, member_of, member, master_member, Unended}
 use Rattle.tm_reassembly.specs.Parts.{Part}
@@ -50,12 +50,12 @@ none_last c last e = let there = at_eight (λ d. None) c (slice_get_within empty
 abbrev OneFrame : ℕ → List ChainMember → Type 0
 OneFrame k fs = (f : ChainMember) × (fs ≡ f ∷ []) × (f.number ≡ k) × PlaceFits f.place (length f.field)
 
-frame_cases : (c k : ℕ) (r : Reading) → IsFit r → (member_of c k r ≡ []) ⊎ OneFrame k (member_of c k r)
+frame_cases : (c k : ℕ) (r : FrameReading) → IsFit r → (member_of c k r ≡ []) ⊎ OneFrame k (member_of c k r)
 frame_cases c k (Err fault) h = inl refl
 frame_cases c k (Ok f) h =
     cond_both (eqb f.channel c) (member k f ∷ []) [] (λ fs. (fs ≡ []) ⊎ OneFrame k fs) (λ e. inr (member k f, refl, refl, h.1)) (λ e. inl refl)
 
-pub frames-fit : (c k : ℕ) (rs : List Reading) → AllReadingsFit rs → FitFrom k (frames c k rs)
+pub frames-fit : (c k : ℕ) (rs : List FrameReading) → AllReadingsFit rs → FitFrom k (frames c k rs)
 frames-fit c k [] h = tt
 frames-fit c k (r ∷ rs) h =
     Each-append (λ m. (k ≤ m.number) × PlaceFits m.place (length m.field)) (member_of c k r) (frames c (k + 1) rs)
@@ -115,7 +115,7 @@ module _ (limit : ℕ) where
       ∙ ap (λ (ts : List Tail). ts ++ flat_map (λ p. held_part p p.fate) rest) (held-none limit f.number here (chain_parts_at-at limit (has_frame_gap before f) f.is_vca tail f)))
 
   -- what a channel's state is after records
-  pub channel_after-is : (chosen : ℕ → Bool) (s : State) (rs : List Reading) (c : ℕ) → chosen c ≡ true
+  pub channel_after-is : (chosen : ℕ → Bool) (s : State) (rs : List FrameReading) (c : ℕ) → chosen c ≡ true
       → channel_after limit chosen s rs c
       ≡ last_with (tail_after (before_of (slice_get s.channels c)) (tail_of (slice_get s.channels c)) (frames c s.records rs))
       (last_frame_count (before_of (slice_get s.channels c)) (frames c s.records rs))
@@ -132,7 +132,7 @@ module _ (limit : ℕ) where
   pub record HasOpenTails (chosen : ℕ → Bool) (s : State) : Type 0 where
     pub tails_open : (c : ℕ) → c < 8 → chosen c ≡ true → IsOpenTail limit (tail_of (slice_get s.channels c))
 
-  module _ (chosen : ℕ → Bool) (s : State) (r : Reading) (valid : HasOpenTails chosen s) (fit : IsFit r) (c : ℕ) (small : c < 8) (is_chosen : chosen c ≡ true) where
+  module _ (chosen : ℕ → Bool) (s : State) (r : FrameReading) (valid : HasOpenTails chosen s) (fit : IsFit r) (c : ℕ) (small : c < 8) (is_chosen : chosen c ≡ true) where
     abbrev before : Option ℕ
     before = before_of (slice_get s.channels c)
 
@@ -176,7 +176,7 @@ module _ (limit : ℕ) where
           ap tail_of new-is ∙ tail_with _ _ (λ z. absurd (none-some f.count (sym z ∙ n))) ∙ t
 
     -- at a later record the channel's items are as from the state after this one
-    items-later : (rs : List Reading) (n : ℕ) → (s.records ≡ n → ⊥)
+    items-later : (rs : List FrameReading) (n : ℕ) → (s.records ≡ n → ⊥)
         → seen_at n (channel_items limit c (chain s c (r ∷ rs))) ≡ seen_at n (channel_items limit c (chain next c rs))
     items-later rs n ne =
         ap (seen_at n) (channel_items-is limit c (slice_get s.channels c) (own ++ frames c (s.records + 1) rs))
@@ -189,12 +189,12 @@ module _ (limit : ℕ) where
         ∙ sym (ap (seen_at n) (channel_items-is limit c (slice_get next.channels c) (frames c (s.records + 1) rs)))
 
     -- at this record the channel's items are the same, whatever comes later
-    items-now : (rs : List Reading) → AllReadingsFit rs → own ≢ []
+    items-now : (rs : List FrameReading) → AllReadingsFit rs → own ≢ []
         → seen_at s.records (channel_items limit c (chain s c (r ∷ rs))) ≡ seen_at s.records (channel_items limit c (chain s c (r ∷ [])))
     items-now rs fits some =
         ⊎_elim (λ e. absurd (some e)) (λ w. here rs fits w.0 w.1 w.2 w.3 ∙ sym (here [] tt w.0 w.1 w.2 w.3)) (frame_cases c s.records r fit)
       where
-        here : (qs : List Reading) → AllReadingsFit qs → (f : ChainMember) → own ≡ f ∷ [] → f.number ≡ s.records → PlaceFits f.place (length f.field)
+        here : (qs : List FrameReading) → AllReadingsFit qs → (f : ChainMember) → own ≡ f ∷ [] → f.number ≡ s.records → PlaceFits f.place (length f.field)
             → seen_at s.records (channel_items limit c (chain s c (r ∷ qs))) ≡ member_items limit c before tail f
         here qs fitted f e number place =
             let later : FitFrom (suc f.number) (frames c (s.records + 1) qs) =
@@ -204,7 +204,7 @@ module _ (limit : ℕ) where
             ∙ items-here limit c before tail f (frames c (s.records + 1) qs) open_tail place later)
 
     -- the state of the channel after more records
-    pub channel-later : (rs : List Reading) → channel_after limit chosen s (r ∷ rs) c ≡ channel_after limit chosen next rs c
+    pub channel-later : (rs : List FrameReading) → channel_after limit chosen s (r ∷ rs) c ≡ channel_after limit chosen next rs c
     channel-later rs =
         channel_after-is chosen s (r ∷ rs) c is_chosen
         ∙ ⊎_elim
@@ -223,7 +223,7 @@ module _ (limit : ℕ) where
         rw (tail-moved w.0 w.1 w.3) (chain_tail_at-open limit (has_frame_gap before w.0) w.0.is_vca tail w.0 open_tail))
         (frame_cases c s.records r fit)
 
-  pub record_items-now : (chosen : ℕ → Bool) (s : State) (r : Reading) → HasOpenTails chosen s → IsFit r → (rs : List Reading) → AllReadingsFit rs
+  pub record_items-now : (chosen : ℕ → Bool) (s : State) (r : FrameReading) → HasOpenTails chosen s → IsFit r → (rs : List FrameReading) → AllReadingsFit rs
       → record_items limit chosen s (r ∷ rs) s.records r ≡ record_items limit chosen s (r ∷ []) s.records r
   record_items-now chosen s (Err fault) valid fit rs fits = refl
   record_items-now chosen s (Ok g) valid fit rs fits =
@@ -245,13 +245,13 @@ module _ (limit : ℕ) where
   good-items chosen s g =
       append-nil (record_items limit chosen s (Ok g ∷ []) s.records (Ok g)) ∙ ap (λ (xs : List Item). xs ++ own_items chosen s g) (masters-now s g [])
 
-  module _ (chosen : ℕ → Bool) (s : State) (r : Reading) (valid : HasOpenTails chosen s) (fit : IsFit r) where
-    merged-later : (rs : List Reading) (n : ℕ) (qs : List Reading) → s.records < n → AllReadingsFit qs
+  module _ (chosen : ℕ → Bool) (s : State) (r : FrameReading) (valid : HasOpenTails chosen s) (fit : IsFit r) where
+    merged-later : (rs : List FrameReading) (n : ℕ) (qs : List FrameReading) → s.records < n → AllReadingsFit qs
         → merged limit chosen s (r ∷ rs) n qs ≡ merged limit chosen (state_after_readings limit chosen s (r ∷ [])) rs n qs
     merged-later rs n [] h fits = refl
     merged-later rs n (q ∷ qs) h fits = append_same (one q fits.0) (merged-later rs (n + 1) qs (omega arith) fits.1)
       where
-        one : (q : Reading) → IsFit q → record_items limit chosen s (r ∷ rs) n q ≡ record_items limit chosen (state_after_readings limit chosen s (r ∷ [])) rs n q
+        one : (q : FrameReading) → IsFit q → record_items limit chosen s (r ∷ rs) n q ≡ record_items limit chosen (state_after_readings limit chosen s (r ∷ [])) rs n q
         one (Err fault) k = refl
         one (Ok g) k =
             append_same (masters-later s (state_after_readings limit chosen s (r ∷ [])) r (master-moved s r) (omega arith) rs n (λ z. omega arith))
@@ -261,7 +261,7 @@ module _ (limit : ℕ) where
             (cases_Bool (chosen g.channel)))
 
     -- the items of a record and more records: those of the record, and then those of the others
-    pub items-cons : (rs : List Reading) → AllReadingsFit rs
+    pub items-cons : (rs : List FrameReading) → AllReadingsFit rs
         → items_of_readings limit chosen s (r ∷ rs) ≡ items_of_readings limit chosen s (r ∷ []) ++ items_of_readings limit chosen (state_after_readings limit chosen s (r ∷ [])) rs
     items-cons rs fits =
         rw (
@@ -273,14 +273,14 @@ module _ (limit : ℕ) where
     pub valid-after : HasOpenTails chosen (state_after_readings limit chosen s (r ∷ []))
     valid-after = record { tails_open = λ c small is_chosen. tail-later chosen s r valid fit c small is_chosen }
 
-    pub after-cons : (rs : List Reading) → state_after_readings limit chosen s (r ∷ rs) ≡ state_after_readings limit chosen (state_after_readings limit chosen s (r ∷ [])) rs
+    pub after-cons : (rs : List FrameReading) → state_after_readings limit chosen s (r ∷ rs) ≡ state_after_readings limit chosen (state_after_readings limit chosen s (r ∷ [])) rs
     after-cons rs =
         state_same (omega arith) (master-later s (state_after_readings limit chosen s (r ∷ [])) r (master-moved s r) (omega arith) rs)
         (map_eight (channel_after limit chosen s (r ∷ rs)) (channel_after limit chosen (state_after_readings limit chosen s (r ∷ [])) rs)
         (λ c small. ⊎_elim (λ e. channel-later chosen s r valid fit c small e rs) (λ e. rw e) (cases_Bool (chosen c))))
 
   -- joining, over any two lists of records
-  pub items-append : (chosen : ℕ → Bool) (s : State) (rs qs : List Reading) → HasOpenTails chosen s → state_after_readings limit chosen s [] ≡ s → AllReadingsFit rs → AllReadingsFit qs
+  pub items-append : (chosen : ℕ → Bool) (s : State) (rs qs : List FrameReading) → HasOpenTails chosen s → state_after_readings limit chosen s [] ≡ s → AllReadingsFit rs → AllReadingsFit qs
       → items_of_readings limit chosen s (rs ++ qs) ≡ items_of_readings limit chosen s rs ++ items_of_readings limit chosen (state_after_readings limit chosen s rs) qs
   items-append chosen s [] qs valid still fits more = ap (λ (z : State). items_of_readings limit chosen z qs) (sym still)
   items-append chosen s (r ∷ rs) qs valid still fits more =
@@ -295,7 +295,7 @@ module _ (limit : ℕ) where
       regroup : (a b c d e : List Item) → a ++ b ≡ d → c ≡ e → a ++ (b ++ c) ≡ d ++ e
       regroup a b c d e f g = sym (append_assoc a b c) ∙ rw (f, g)
 
-  pub after-append : (chosen : ℕ → Bool) (s : State) (rs qs : List Reading) → HasOpenTails chosen s → state_after_readings limit chosen s [] ≡ s → AllReadingsFit rs
+  pub after-append : (chosen : ℕ → Bool) (s : State) (rs qs : List FrameReading) → HasOpenTails chosen s → state_after_readings limit chosen s [] ≡ s → AllReadingsFit rs
       → state_after_readings limit chosen s (rs ++ qs) ≡ state_after_readings limit chosen (state_after_readings limit chosen s rs) qs
   after-append chosen s [] qs valid still fits = ap (λ (z : State). state_after_readings limit chosen z qs) (sym still)
   after-append chosen s (r ∷ rs) qs valid still fits =

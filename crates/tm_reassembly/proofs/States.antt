@@ -11,7 +11,7 @@ use Rattle.tm_frame.specs.declared.frame.Kind.TheVariants as got
 use Rattle.tm_frame.specs.declared.frame.Kind.{Kind}
 use Rattle.tm_frame.specs.Fault.{frame_reading_of}
 use Rattle.tm_frame.specs.Frame.{GoodFrame, is_vca_kind}
-use Rattle.tm_reassembly.specs.Readings.{Reading}
+use Rattle.tm_reassembly.specs.Readings.{FrameReading}
 use Rattle.tm_reassembly.specs.State.{State, Last, Tail}
 use Rattle.tm_reassembly.specs.Chain.{has_frame_gap, member, counted_field, start_place_of}
 use Rattle.tm_items.specs.OnePacket.{packet_length}
@@ -166,7 +166,7 @@ module _ (rules : Rules) (s : State) (v : IsValidState rules s) (more : s.record
   within_now c (Some None) e = tt
   within_now c (Some (Some last)) e = (keeps-at rules s v c last e).within
 
-  read-valid : (r : Reading) → IsRead rules.layout r → IsValidState rules (read.state_after_readings rules.max_packet (chooses rules) s (r ∷ []))
+  read-valid : (r : FrameReading) → IsRead rules.layout r → IsValidState rules (read.state_after_readings rules.max_packet (chooses rules) s (r ∷ []))
   read-valid (Err fault) h = subst (IsValidState rules) (sym (after-bad rules.max_packet (chooses rules) s fault v.shape)) (channels-valid s.master v.master)
   read-valid (Ok g) h =
       ⊎_elim

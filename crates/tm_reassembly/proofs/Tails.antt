@@ -15,7 +15,7 @@ join_six tail field h =
     let six : length tail + (6 - length tail) ≡ 6 = omega arith in
     sym (take-append-add tail field (6 - length tail)) ∙ ap (λ (n : ℕ). take n (tail ++ field)) six
 
--- more octets behind a tail
+-- more octets after a tail
 pub grown_octets : (first place : ℕ) (octets more : List ℕ) → 0 < length octets
     → tail_of_octets first place (octets ++ more) ≡ grown (tail_of_octets first place octets) more
 grown_octets first place [] more h = absurd (omega arith)

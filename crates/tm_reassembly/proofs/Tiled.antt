@@ -9,7 +9,7 @@ use Rattle.tm_reassembly.specs.State.{State, Last, Tail}
 use Rattle.tm_frame.specs.Frame.{GoodFrame, is_vca_kind}
 use Rattle.tm_frame.specs.declared.frame.Kind.TheVariants as got
 use Rattle.tm_frame.specs.declared.frame.Kind.{Kind}
-use Rattle.tm_reassembly.specs.Readings.{Reading}
+use Rattle.tm_reassembly.specs.Readings.{FrameReading}
 use Rattle.tm_reassembly.specs.Recording.{readings, items, after}
 use Rattle.tm_frame.specs.Rules.{Rules, chooses}
 use Rattle.tm_reassembly.proofs.Fits.{readings-fit}
@@ -103,12 +103,12 @@ module _ (limit : ℕ) where
       member-parts c own before tail m ∙ filter-none (λ x. is_part_of c x) _ (others-none c own (chain_parts_at limit (has_frame_gap before m) m.is_vca tail m) h)
 
   -- one record
-  abbrev Result : (ℕ → Bool) → State → Reading → ℕ → List Spot → Type 0
+  abbrev Result : (ℕ → Bool) → State → FrameReading → ℕ → List Spot → Type 0
   Result chosen s r c h =
       (middle : List Spot) × Tile (h ++ record_spots c s.records r) (parts_of c (items_of_readings limit chosen s (r ∷ []))) middle
       × IsHeld (held_tail (state_after_readings limit chosen s (r ∷ [])) c) middle
 
-  quiet : (chosen : ℕ → Bool) (s : State) (r : Reading) (c : ℕ) (h : List Spot) → HasOpenTails limit chosen s → IsFit r → c < 8 → chosen c ≡ true
+  quiet : (chosen : ℕ → Bool) (s : State) (r : FrameReading) (c : ℕ) (h : List Spot) → HasOpenTails limit chosen s → IsFit r → c < 8 → chosen c ≡ true
       → IsHeld (held_tail s c) h → parts_of c (items_of_readings limit chosen s (r ∷ [])) ≡ [] → record_spots c s.records r ≡ [] → member_of c s.records r ≡ []
       → Result chosen s r c h
   quiet chosen s r c h valid fit small is_chosen held nothing no_spots no_frame =
@@ -133,7 +133,7 @@ module _ (limit : ℕ) where
         rw (tail-moved limit chosen s (Ok g) valid fit g.channel fit.0 is_chosen (member s.records g) one fit.1) lies.2,
       )
 
-  one-record : (chosen : ℕ → Bool) (s : State) (r : Reading) (c : ℕ) (h : List Spot) → HasOpenTails limit chosen s → IsFit r → c < 8 → chosen c ≡ true
+  one-record : (chosen : ℕ → Bool) (s : State) (r : FrameReading) (c : ℕ) (h : List Spot) → HasOpenTails limit chosen s → IsFit r → c < 8 → chosen c ≡ true
       → IsHeld (held_tail s c) h → Result chosen s r c h
   one-record chosen s (Err fault) c h valid fit small is_chosen held = quiet chosen s (Err fault) c h valid fit small is_chosen held refl refl refl
   one-record chosen s (Ok g) c h valid fit small is_chosen held =
@@ -155,7 +155,7 @@ module _ (limit : ℕ) where
 
   -- any records, from any state whose tail has these octets
   pub tiles-from : (chosen : ℕ → Bool) (c : ℕ) → c < 8 → chosen c ≡ true
-      → (rs : List Reading) (s : State) (h : List Spot) → HasOpenTails limit chosen s → state_after_readings limit chosen s [] ≡ s → AllReadingsFit rs → IsHeld (held_tail s c) h
+      → (rs : List FrameReading) (s : State) (h : List Spot) → HasOpenTails limit chosen s → state_after_readings limit chosen s [] ≡ s → AllReadingsFit rs → IsHeld (held_tail s c) h
       → (rest : List Spot) × Tile (h ++ channel_spots c s.records rs) (parts_of c (items_of_readings limit chosen s rs)) rest
       × IsHeld (held_tail (state_after_readings limit chosen s rs) c) rest
   tiles-from chosen c small is_chosen [] s h valid still fits held =

@@ -13,7 +13,7 @@ use Rattle.tm_items.specs.Item.{Item, seen_of}
 use Rattle.tm_reassembly.specs.Chain.{ChainMember, has_frame_gap, master_frames, master_member}
 use Rattle.tm_reassembly.specs.Items.{gap_at, gaps, master_gap_item, seen_at}
 use Rattle.tm_reassembly.specs.OlderForms.{is_gap_at, without_gaps_at}
-use Rattle.tm_reassembly.specs.Readings.{Reading}
+use Rattle.tm_reassembly.specs.Readings.{FrameReading}
 use Rattle.tm_bits.proofs.Each.{Each, Each-every, Each-weaken, filter-all}
 use Rattle.tm_reassembly.proofs.Joining.{none_before}
 use Rattle.tm_reassembly.proofs.Masters.{master_after, masters-from, masters-here, masters-there}
@@ -32,7 +32,7 @@ no-gap numbers x e = ap (λ (b : Bool). b && list_any (λ n. seen_of x == n) num
 pub not-there : (n : ℕ) (x : Item) → (seen_of x ≡ n → ⊥) → is_gap_at (n ∷ []) x ≡ false
 not-there n x ne = ap (λ (b : Bool). is_master_gap x && (b || false)) (ne_eqb (seen_of x) n ne) ∙ and-false (is_master_gap x)
 
--- one test behind another
+-- one test after another
 filter-filter : {X : Type 0} (p q r : X → Bool) → ((x : X) → (q x && p x) ≡ r x) → (xs : List X) → filter p (filter q xs) ≡ filter r xs
 filter-filter p q r h [] = refl
 filter-filter {X} p q r h (x ∷ xs) =
@@ -97,7 +97,7 @@ one-gap : (before : Option ℕ) (m : ChainMember) → length (gap_at master_gap_
 one-gap None m = omega arith
 one-gap (Some before) m = cond_both (has_frame_gap (Some before) m) _ _ (λ xs. length xs ≤ 1) (λ e. omega arith) (λ e. omega arith)
 
-pub one-at : (n k : ℕ) (before : Option ℕ) (rs : List Reading) → length (seen_at n (gaps master_gap_item before (master_frames k rs))) ≤ 1
+pub one-at : (n k : ℕ) (before : Option ℕ) (rs : List FrameReading) → length (seen_at n (gaps master_gap_item before (master_frames k rs))) ≤ 1
 one-at n k before [] = omega arith
 one-at n k before (r ∷ rs) =
     ⊎_elim
@@ -105,7 +105,7 @@ one-at n k before (r ∷ rs) =
     (λ ne. subst (λ (xs : List Item). length xs ≤ 1) (sym (masters-there k n before r rs ne)) (one-at n (k + 1) (master_after before r) rs))
     (cases_eq k n)
   where
-    here : (q : Reading) → length (seen_at k (gaps master_gap_item before (master_frames k (q ∷ rs)))) ≤ 1
+    here : (q : FrameReading) → length (seen_at k (gaps master_gap_item before (master_frames k (q ∷ rs)))) ≤ 1
     here (Err fault) =
         subst (λ (xs : List Item). length xs ≤ 1)
         (sym (none_before (k + 1) k (gaps master_gap_item before (master_frames (k + 1) rs)) (omega arith) (masters-from (k + 1) before rs))) (omega arith)

@@ -5,7 +5,7 @@ use Rattle.tm_reassembly.specs.Chain.{ChainMember, End}
 use Rattle.tm_reassembly.specs.Parts.{Part, Fate, Lost, Start, text, reach_of, claims, lead, start_part}
 use Rattle.tm_items.specs.declared.items.Reason.{Reason}
 
--- the text of a run: of a frame, with those before it and those behind it
+-- the text of a run: of a frame, with those before it and those after it
 abbrev pub text_around : List ChainMember → ChainMember → List ChainMember → List ℕ
 text_around before f later = text (before ++ f ∷ later)
 
@@ -17,7 +17,7 @@ frame_begin before = length (text before)
 abbrev pub frame_end : List ChainMember → ChainMember → ℕ
 frame_end before f = frame_begin before + length f.field
 
--- where a start of it begins, behind the octets that it has before the start
+-- where a start of it begins, after the octets that it has before the start
 abbrev pub start_in_text : List ChainMember → List ℕ → ℕ
 start_in_text before skipped = frame_begin before + length skipped
 

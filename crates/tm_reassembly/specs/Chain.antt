@@ -3,7 +3,7 @@ use Rattle.std.specs.Prelude.{ℕ, ◌+◌, ◌%◌, ◌==◌, Bool, true, false
 use Rattle.tm_frame.specs.Frame.{GoodFrame, is_vca_kind}
 use Rattle.tm_frame.specs.declared.frame.Kind.TheVariants as got
 use Rattle.tm_frame.specs.declared.frame.Kind.{Kind}
-use Rattle.tm_reassembly.specs.Readings.{Reading}
+use Rattle.tm_reassembly.specs.Readings.{FrameReading}
 use Rattle.tm_items.specs.declared.items.Reason.TheVariants as why
 use Rattle.tm_items.specs.declared.items.Reason.{Reason}
 use Rattle.tm_reassembly.specs.State.{State, Last, Tail}
@@ -60,17 +60,17 @@ stem_of (Some None) = []
 stem_of (Some (Some last)) = stem_with last.count last.tail ∷ []
 
 -- the member that a record gives, if it is a good frame of the channel
-abbrev pub member_of : ℕ → ℕ → Reading → List ChainMember
+abbrev pub member_of : ℕ → ℕ → FrameReading → List ChainMember
 member_of channel number (Err fault) = []
 member_of channel number (Ok f) = if f.channel == channel then member number f ∷ [] else []
 
 -- the members among records that are numbered from a number on
-abbrev pub frames : ℕ → ℕ → List Reading → List ChainMember
+abbrev pub frames : ℕ → ℕ → List FrameReading → List ChainMember
 frames channel number [] = []
 frames channel number (r ∷ rs) = member_of channel number r ++ frames channel (number + 1) rs
 
 -- the chain of a channel after a state
-abbrev pub chain : State → ℕ → List Reading → List ChainMember
+abbrev pub chain : State → ℕ → List FrameReading → List ChainMember
 chain s channel records = stem_of (slice_get s.channels channel) ++ frames channel s.records records
 
 -- A good frame, as a member of the master chain: its count is the one over all channels together (4.1.2.5). Only the number and
@@ -79,12 +79,12 @@ abbrev pub master_member : ℕ → GoodFrame → ChainMember
 master_member number f = record (member number f) { count = f.master_count }
 
 -- the member that a record gives, if it is a good frame, of whatever channel
-abbrev pub master_member_of : ℕ → Reading → List ChainMember
+abbrev pub master_member_of : ℕ → FrameReading → List ChainMember
 master_member_of number (Err fault) = []
 master_member_of number (Ok f) = master_member number f ∷ []
 
 -- the members among records that are numbered from a number on
-abbrev pub master_frames : ℕ → List Reading → List ChainMember
+abbrev pub master_frames : ℕ → List FrameReading → List ChainMember
 master_frames number [] = []
 master_frames number (r ∷ rs) = master_member_of number r ++ master_frames (number + 1) rs
 
@@ -94,7 +94,7 @@ master_stem None = []
 master_stem (Some count) = stem_with count None ∷ []
 
 -- the master chain after a state: all good frames, whether their channels are chosen or not
-abbrev pub master_chain : State → List Reading → List ChainMember
+abbrev pub master_chain : State → List FrameReading → List ChainMember
 master_chain s records = master_stem s.master ++ master_frames s.records records
 
 -- what a member's count should be, after one with this count

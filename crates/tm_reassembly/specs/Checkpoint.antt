@@ -105,7 +105,7 @@ abbrev pub in_front : ReadBlock → Result ReadBlocks StateFault → Result Read
 in_front one (Ok rest) = Ok (record { channels = one.last ∷ rest.channels; octets = one.octets + rest.octets })
 in_front one (Err found) = Err found
 
--- a block, and then the others behind its octets
+-- a block, and then the others after its octets
 abbrev pub and_then_blocks : Result ReadBlock StateFault → (ℕ → Result ReadBlocks StateFault) → Result ReadBlocks StateFault
 and_then_blocks (Ok one) others = in_front one (others one.octets)
 and_then_blocks (Err found) others = Err found
@@ -141,7 +141,7 @@ with_channels records master octets (Ok all) =
     Ok (record { state = record { records = records; master = master; channels = all.channels }; octets = octets + all.octets })
 with_channels records master octets (Err found) = Err found
 
--- a number of records, a last master channel count, and the channels of the octets behind it
+-- a number of records, a last master channel count, and the channels of the octets after it
 abbrev pub with_master : Rules → ℕ → List ℕ → Result ReadMaster StateFault → Result DecodedState StateFault
 with_master rules records xs (Ok read) =
     with_channels records read.count (4 + read.octets) (blocks_read rules records 8 0 (drop read.octets xs))

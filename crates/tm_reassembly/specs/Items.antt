@@ -1,7 +1,7 @@
 -- The items of records, merged by record, and the state after them.
 use Rattle.std.specs.Prelude.{ℕ, ◌+◌, ◌-◌, ◌%◌, ◌==◌, nat_lt, Bool, Option, None, Some, Ok, Err, List, [], ◌∷◌, ◌++◌, length, map, filter, if◌then◌else◌}
 use Rattle.std.specs.List.{flat_map}
-use Rattle.tm_reassembly.specs.Readings.{Reading}
+use Rattle.tm_reassembly.specs.Readings.{FrameReading}
 use Rattle.tm_items.specs.declared.items.Reason.TheVariants as why
 use Rattle.tm_items.specs.Item.{Item, Bad, MasterGap, Gap, Vca, Dropped, Packet, Short, seen_of}
 use Rattle.tm_reassembly.specs.State.{State, Last, Tail}
@@ -73,32 +73,32 @@ module _ (limit : ℕ) where
       gaps (gap_item channel) None ms ++ flat_map (vca_at channel) ms ++ flat_map (λ p. part_item channel p p.fate) (chain_parts ms)
 
   -- The items of a record. A good frame gives its master gap first, and nothing else where its channel isn't chosen.
-  abbrev pub record_items : (ℕ → Bool) → State → List Reading → ℕ → Reading → List Item
+  abbrev pub record_items : (ℕ → Bool) → State → List FrameReading → ℕ → FrameReading → List Item
   record_items chosen s records number (Err fault) = Bad number fault ∷ []
   record_items chosen s records number (Ok f) =
       seen_at number (master_items (master_chain s records))
       ++ (if chosen f.channel then seen_at number (channel_items f.channel (chain s f.channel records)) else [])
 
-  abbrev pub merged : (ℕ → Bool) → State → List Reading → ℕ → List Reading → List Item
+  abbrev pub merged : (ℕ → Bool) → State → List FrameReading → ℕ → List FrameReading → List Item
   merged chosen s records number [] = []
   merged chosen s records number (r ∷ rs) = record_items chosen s records number r ++ merged chosen s records (number + 1) rs
 
   -- the items of records that come after a state, record by record
-  abbrev pub items_of_readings : (ℕ → Bool) → State → List Reading → List Item
+  abbrev pub items_of_readings : (ℕ → Bool) → State → List FrameReading → List Item
   items_of_readings chosen s records = merged chosen s records s.records records
 
   -- the tail that a chain holds at its end (there is at most one)
   abbrev pub held : List ChainMember → Option Tail
   held ms = first_tail (flat_map (λ p. held_part p p.fate) (chain_parts ms))
 
-  abbrev pub channel_after : (ℕ → Bool) → State → List Reading → ℕ → Option Last
+  abbrev pub channel_after : (ℕ → Bool) → State → List FrameReading → ℕ → Option Last
   channel_after chosen s records channel =
       if chosen channel
       then last_with (held (chain s channel records)) (last_frame_count None (chain s channel records))
       else None
 
   -- the state after more records
-  abbrev pub state_after_readings : (ℕ → Bool) → State → List Reading → State
+  abbrev pub state_after_readings : (ℕ → Bool) → State → List FrameReading → State
   state_after_readings chosen s records =
       record {
         records = s.records + length records;

@@ -7,7 +7,7 @@ use Rattle.tm_items.specs.Item.{Item, Bad, seen_of}
 use Rattle.tm_items.specs.Among.{is_master_gap}
 use Rattle.tm_reassembly.specs.Chain.{master_member}
 use Rattle.tm_reassembly.specs.Items.{gap_at, master_gap_item}
-use Rattle.tm_reassembly.specs.Readings.{Reading}
+use Rattle.tm_reassembly.specs.Readings.{FrameReading}
 use Rattle.tm_reassembly.specs.State.{State}
 
 -- the state, its last master channel count being forgotten
@@ -16,23 +16,23 @@ without_master s = record { records = s.records; master = None; channels = s.cha
 
 -- For records that are numbered from a number on: the items of those before the first good frame, which are all bad. Then the gap
 -- of this frame after a last master channel count, and the number of its record, if they come.
-abbrev pub leading_bad_items : ℕ → List Reading → List Item
+abbrev pub leading_bad_items : ℕ → List FrameReading → List Item
 leading_bad_items number [] = []
 leading_bad_items number (Err fault ∷ rs) = Bad number fault ∷ leading_bad_items (number + 1) rs
 leading_bad_items number (Ok f ∷ rs) = []
 
-abbrev pub first_master_gap : Option ℕ → ℕ → List Reading → List Item
+abbrev pub first_master_gap : Option ℕ → ℕ → List FrameReading → List Item
 first_master_gap master number [] = []
 first_master_gap master number (Err fault ∷ rs) = first_master_gap master (number + 1) rs
 first_master_gap master number (Ok f ∷ rs) = gap_at master_gap_item master (master_member number f)
 
-abbrev pub first_good_record : ℕ → List Reading → List ℕ
+abbrev pub first_good_record : ℕ → List FrameReading → List ℕ
 first_good_record number [] = []
 first_good_record number (Err fault ∷ rs) = first_good_record (number + 1) rs
 first_good_record number (Ok f ∷ rs) = number ∷ []
 
 -- the fewer items are all that come after a state, in their order, but for the master gap of the first good frame
-pub record LacksFirstGap (s : State) (rs : List Reading) (all fewer : List Item) : Type 0 where
+pub record LacksFirstGap (s : State) (rs : List FrameReading) (all fewer : List Item) : Type 0 where
   pub back : List Item
   pub all_is : all ≡ leading_bad_items s.records rs ++ (first_master_gap s.master s.records rs ++ back)
   pub fewer_is : fewer ≡ leading_bad_items s.records rs ++ back

@@ -100,7 +100,7 @@ module _ (limit : ℕ) where
   begins_packet start = is_packet start && not (is_long (packet_length start) (length start))
 
   -- The starts among octets, where the first octet is at a place of its record's data field. The first `skip` octets hold none,
-  -- and the next octet is one. Where that begins a packet that is read, the octet behind the packet is one too, if it is among
+  -- and the next octet is one. Where that begins a packet that is read, the octet after the packet is one too, if it is among
   -- these octets.
   abbrev pub starts : ℕ → ℕ → List ℕ → List Start
   starts place skip [] = []

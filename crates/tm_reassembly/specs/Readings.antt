@@ -3,5 +3,5 @@ use Rattle.std.specs.Prelude.{Result}
 use Rattle.tm_frame.specs.Frame.{GoodFrame}
 use Rattle.tm_frame.specs.declared.fault.FrameFault.{FrameFault}
 
-abbrev pub Reading : Type 0
-Reading = Result GoodFrame FrameFault
+abbrev pub FrameReading : Type 0
+FrameReading = Result GoodFrame FrameFault

@@ -2,14 +2,14 @@
 use Rattle.std.specs.Prelude.{ℕ, Bool, false, List, map, Ok, Err}
 use Rattle.tm_frame.specs.declared.layout.LayoutParts.{LayoutParts}
 use Rattle.tm_frame.specs.Fault.{frame_reading_of}
-use Rattle.tm_reassembly.specs.Readings.{Reading}
+use Rattle.tm_reassembly.specs.Readings.{FrameReading}
 use Rattle.tm_frame.specs.Rules.{Rules, chooses}
 use Rattle.tm_items.specs.Item.{Item}
 use Rattle.tm_reassembly.specs.State.{State}
 use Rattle.tm_reassembly.specs.Items as read
 
 -- each record, as it reads
-abbrev pub readings : LayoutParts → List (List ℕ) → List Reading
+abbrev pub readings : LayoutParts → List (List ℕ) → List FrameReading
 readings layout records = map (frame_reading_of layout) records
 
 -- the items of records that come after a state
@@ -21,7 +21,7 @@ unfoldable pub after : Rules → State → List (List ℕ) → State
 after rules s records = read.state_after_readings rules.max_packet (chooses rules) s (readings rules.layout records)
 
 -- a record reads as a good frame of a chosen channel
-abbrev pub is_chosen_reading : Rules → Reading → Bool
+abbrev pub is_chosen_reading : Rules → FrameReading → Bool
 is_chosen_reading rules (Ok frame) = chooses rules frame.channel
 is_chosen_reading rules (Err fault) = false
 

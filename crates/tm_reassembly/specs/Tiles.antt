@@ -2,7 +2,7 @@
 use Rattle.std.specs.Prelude.{◌≡◌, ℕ, ◌+◌, ◌==◌, Bool, false, Option, Some, None, Ok, Err, List, [], ◌∷◌, ◌++◌, length, map, filter, slice_get, if◌then◌else◌}
 use Rattle.tm_frame.specs.declared.frame.Kind.TheVariants as got
 use Rattle.tm_frame.specs.declared.frame.Kind.{Kind}
-use Rattle.tm_reassembly.specs.Readings.{Reading}
+use Rattle.tm_reassembly.specs.Readings.{FrameReading}
 use Rattle.tm_items.specs.Item as item
 use Rattle.tm_items.specs.Item.{Item}
 use Rattle.tm_reassembly.specs.State.{State, Last, Tail}
@@ -25,12 +25,12 @@ kind_spots number got.NoStart field = field_spots number 0 field
 kind_spots number got.Idle field = []
 kind_spots number got.Vca field = []
 
-abbrev pub record_spots : ℕ → ℕ → Reading → List Spot
+abbrev pub record_spots : ℕ → ℕ → FrameReading → List Spot
 record_spots channel number (Err fault) = []
 record_spots channel number (Ok f) = if f.channel == channel then kind_spots number f.kind f.field else []
 
 -- a channel's data fields, joined, of records that are numbered from a number on
-abbrev pub channel_spots : ℕ → ℕ → List Reading → List Spot
+abbrev pub channel_spots : ℕ → ℕ → List FrameReading → List Spot
 channel_spots channel number [] = []
 channel_spots channel number (r ∷ rs) = record_spots channel number r ++ channel_spots channel (number + 1) rs
 
@@ -42,7 +42,7 @@ abbrev pub BeginsAt : ℕ → ℕ → List Spot → Type 0
 BeginsAt first place [] = ⊥
 BeginsAt first place (x ∷ xs) = (x.record_number ≡ first) × (x.place ≡ place)
 
--- an item covers the octets at the front that it tells of, and the others lie behind them
+-- an item covers the octets at the front that it tells of, and the others lie after them
 abbrev pub Covers : List Spot → Item → List Spot → Type 0
 Covers spots (item.Packet seen channel first place octets) rest =
     (these : List Spot) × (spots ≡ these ++ rest) × (spot_octets these ≡ octets) × BeginsAt first place these

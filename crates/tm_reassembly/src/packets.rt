@@ -139,7 +139,7 @@ pub fn give_lead<S: Sink>(
     }
 }
 
-// Gives what of a field stands behind its last whole packet: its unread part, if it has one. Answers as `read_field` does.
+// Gives what of a field stands after its last whole packet: its unread part, if it has one. Answers as `read_field` does.
 fn give_unread<S: Sink>(
     limit: usize,
     site: Site,

@@ -394,7 +394,7 @@ fn decode_channels(
     }
 }
 
-// Two channels without anything kept, with capacity for a packet of so many octets each.
+// Two channels without anything kept, with capacity for a packet of this length each.
 fn two_states(alloc: Global, limit: usize) -> Result<(ChannelState, ChannelState), AllocError>
     requires { IsLimit limit }
     ensures { IfOk result (λ two_states. (two_states.0 ≡ unused limit) × (two_states.1 ≡ unused limit)) }

@@ -125,7 +125,7 @@ layout_from ms =
       error_control = error_control;
     }))))))))
 
--- all keys: behind those of the layout the channels, and then the most octets that a packet may have
+-- all keys: after those of the layout the channels, and then the most octets that a packet may have
 abbrev pub choices_from : Members → ReadAs Rules
 choices_from ms =
     read_and_then (layout_from ms) (λ layout.

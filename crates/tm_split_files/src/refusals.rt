@@ -1,7 +1,7 @@
 //! The puts that were refused.
 
 ghost use Rattle.std.specs.Prelude.{◌≡◌, None, Some, MatchResult};
-ghost use Rattle.tm_devices.specs.Devices.{Counts};
+ghost use Rattle.tm_devices.specs.Devices.{CountsFailures};
 
 use crate::files::ShelfFault;
 
@@ -36,7 +36,7 @@ impl Refusals {
 
     /// Counts a put, and remembers it, if it was refused.
     pub fn add(&mut self, application: usize, put: Result<(), ShelfFault>)
-        ensures counts { Counts self.old.count self.new.count put }
+        ensures counts { CountsFailures self.old.count self.new.count put }
         ensures last { MatchResult put (λ _. self.new.last ≡ self.old.last)
             (λ fault. self.new.last ≡ Some (record { application = application; fault = fault })) }
     {

@@ -1,7 +1,7 @@
 //! A file for each application.
 
 ghost use Rattle.std.specs.Prelude.{◌≡◌, ◌≢◌, ◌<◌, ◌+◌, ◌⊎◌, ℕ, None, Some, true, false, length, slice_get, replicate, Err, IfErr, IfOk, IfSome, MatchResult, OnErr, OnOk};
-ghost use Rattle.tm_devices.specs.Devices.{Counts, Puts, PutsPrefix, PutsNone};
+ghost use Rattle.tm_devices.specs.Devices.{CountsFailures, Puts, PutsPrefix, PutsNone};
 ghost use Rattle.tm_split_files.specs.ShelfFaults.{is_out_of_memory};
 ghost use Rattle.tm_split_files.specs.Shelves.{HoldsNone, HoldsSame, IsAdded, IsEmptied, IsKeptOrEmptied, IsRefused};
 
@@ -107,7 +107,7 @@ impl<R: Files + AllocGlobal> Shelf for FileShelf<'_, R> {
     fn put(&mut self, application: u16, octets: &[u8]) -> Result<(), ShelfFault>
         ensures whole { OnOk result (Puts None None application octets.now) }
         ensures prefix { OnErr result (PutsPrefix None None application octets.now) }
-        ensures counts { Counts self.old.refused self.new.refused result }
+        ensures counts { CountsFailures self.old.refused self.new.refused result }
         ensures last { MatchResult result (λ _. self.new.last_refused ≡ self.old.last_refused)
             (λ fault. self.new.last_refused ≡ Some (record { application = application; fault = fault })) }
         ensures begun { OnOk result (slice_get self.new.begun application ≡ Some true) }

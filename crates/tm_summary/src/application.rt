@@ -41,7 +41,7 @@ impl ApplicationCounts {
         }
     }
 
-    // A whole packet more, of so many octets, which this record completed.
+    // One whole packet more, of this length, which this record completed.
     pub(crate) fn add_packet(&mut self, seen: u32, octets: u64)
         ensures { self.new ≡ whole_more self.old seen octets }
     {

@@ -15,7 +15,7 @@ pub struct Loss {
 }
 
 impl Loss {
-    // A part more, of so many octets.
+    // One part more, of this length.
     fn add(&mut self, octets: u32)
         ensures { self.new ≡ loss_more self.old octets }
     {
@@ -67,7 +67,7 @@ impl ChannelCounts {
         }
     }
 
-    // A good frame more, whose data field holds this and has so many octets.
+    // One good frame more, by what its data field holds and how long that is.
     pub(crate) fn add_frame(&mut self, kind: Kind, octets: u64)
         ensures { self.new ≡ frame_more self.old kind octets }
     {
@@ -81,7 +81,7 @@ impl ChannelCounts {
         }
     }
 
-    // A gap more, of so many missing frames.
+    // One gap more, by how many frames are missing.
     pub(crate) fn add_gap(&mut self, missing: u8)
         ensures { self.new ≡ gap_more self.old missing }
     {
@@ -89,7 +89,7 @@ impl ChannelCounts {
         self.missing = self.missing.saturating_add(u64::from(missing));
     }
 
-    // A whole packet more, of so many octets.
+    // One whole packet more, of this length.
     pub(crate) fn add_packet(&mut self, octets: u64)
         ensures { self.new ≡ packet_more self.old octets }
     {
@@ -97,7 +97,7 @@ impl ChannelCounts {
         self.octets = self.octets.saturating_add(octets);
     }
 
-    // A dropped part more, of so many octets.
+    // One dropped part more, of this length.
     pub(crate) fn add_drop(&mut self, octets: u32, reason: Reason)
         ensures { self.new ≡ drop_more self.old octets reason }
     {

@@ -42,7 +42,7 @@ fn write_recording<W: Drain>(records: u32, counts: &Counts, out: &mut W) -> Resu
     write_line(line.as_slice(), out)
 }
 
-// Writes the line of a fault that so many records have, if any has it.
+// Writes the line of a fault, with how many records have it, if any has it.
 fn write_fault<W: Drain>(fault: FrameFault, records: u64, out: &mut W) -> Result<(), RunFault>
     ensures same { W.fixed out.new ≡ W.fixed out.old }
     ensures written { Written Appends octets_buffering (out_alone W.Drain out.old) (out_alone W.Drain out.new)

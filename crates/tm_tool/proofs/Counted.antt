@@ -14,7 +14,7 @@ use Rattle.tm_packet.specs.Merge as sequence
 use Rattle.tm_packet.specs.Merge.{Entries, pair_key}
 use Rattle.tm_items.specs.Item.{Item, Bad, MasterGap, Gap, Vca, Dropped, Packet, Short}
 use Rattle.tm_reassembly.specs.Items.{closing}
-use Rattle.tm_reassembly.specs.Readings.{Reading}
+use Rattle.tm_reassembly.specs.Readings.{FrameReading}
 use Rattle.tm_reassembly.specs.Recording.{is_chosen_frame, is_chosen_reading}
 use Rattle.tm_output.specs.declared.command.Ending.{Ending}
 use Rattle.tm_output.specs.declared.command.Ending.TheVariants.{Close, Keep, StopAfter}
@@ -202,7 +202,7 @@ module _ {A : Type 0} (text : Texts A) (rules : Rules) where
 
     -- ---- a record more
 
-    frames_more : (u : Tally) (r : Reading) → with_record (numbers u) (is_chosen_reading rules r)
+    frames_more : (u : Tally) (r : FrameReading) → with_record (numbers u) (is_chosen_reading rules r)
         ≡ numbers (record { frames = u.frames ++ (frames_in r ++ []); items = u.items; notes = u.notes })
     frames_more u (Ok f) = rw (how_many_more (λ (g : GoodFrame). chooses rules g.channel) u.frames f) refl
     frames_more u (Err fault) = rw (append-nil u.frames) refl
@@ -219,7 +219,7 @@ module _ {A : Type 0} (text : Texts A) (rules : Rules) where
         ∙ ap (λ (n : Totals). with_record n chosen) all
         ∙ ap (with_record (numbers (and_items t w.entries xs))) chosen_is
         ∙ frames_more (and_items t w.entries xs) (frame_reading_of rules.layout octets)
-        ∙ ap (λ (r : Reading). numbers (record {
+        ∙ ap (λ (r : FrameReading). numbers (record {
           frames = t.frames ++ (frames_in r ++ []);
           items = t.items ++ xs;
           notes = t.notes ++ notes_among w.entries xs;

@@ -13,7 +13,7 @@ use Rattle.tm_frame.specs.Rules.{Rules, chooses}
 use Rattle.tm_items.specs.Item.{Item, Gap, Vca, Dropped, Packet, Short}
 use Rattle.tm_items.specs.Among.{is_of}
 use Rattle.tm_reassembly.specs.Items.{close_channels, close_last, close_tail, closing, empty}
-use Rattle.tm_reassembly.specs.Readings.{Reading}
+use Rattle.tm_reassembly.specs.Readings.{FrameReading}
 use Rattle.tm_reassembly.specs.Recording.{after, items, readings}
 use Rattle.tm_reassembly.specs.State.{Last, State, Tail}
 use Rattle.tm_reassembly.specs.Tiles.{Covers, IsHeld, Spot, Tile, channel_spots, field_spots, held_tail, kind_spots, parts_of, record_spots, tail_of}
@@ -160,14 +160,14 @@ module _ (channel : ℕ) where
   frame_told number f true true of holds = rw (of, holds) (kind_told number f.kind f.field ∙ rw holds (omega arith))
   frame_told number f true false of holds = rw (of, holds) (kind_told number f.kind f.field ∙ rw holds refl)
 
-  reading_told : (number : ℕ) (r : Reading) → length (record_spots channel number r) ≡ joined_octets (frames_in r)
+  reading_told : (number : ℕ) (r : FrameReading) → length (record_spots channel number r) ≡ joined_octets (frames_in r)
   reading_told number (Err fault) = refl
   reading_told number (Ok f) = frame_told number f (f.channel == channel) (is_joined_kind f.kind) refl refl
 
   fields_told : (layout : LayoutParts) (number : ℕ) (rs : List (List ℕ)) → length (channel_spots channel number (readings layout rs)) ≡ joined_octets (good_frames layout rs)
   fields_told layout number [] = refl
   fields_told layout number (r ∷ rs) =
-      let one : Reading = frame_reading_of layout r in
+      let one : FrameReading = frame_reading_of layout r in
       rw (length-append (record_spots channel number one) (channel_spots channel (number + 1) (readings layout rs)))
       (rw (reading_told number one, fields_told layout (number + 1) rs) (sym (joined_append (frames_in one) (good_frames layout rs))))
 

@@ -5,7 +5,7 @@ use Rattle.tm_items.specs.Item.{Item, Bad, MasterGap}
 use Rattle.tm_reassembly.specs.OlderForms.{leading_bad_items, first_master_gap, without_master}
 use Rattle.tm_reassembly.specs.Items.{master_gap_item}
 use Rattle.tm_reassembly.specs.Chain.{master_member}
-use Rattle.tm_reassembly.specs.Readings.{Reading}
+use Rattle.tm_reassembly.specs.Readings.{FrameReading}
 use Rattle.tm_reassembly.specs.Recording.{readings}
 use Rattle.tm_bits.proofs.Each.{Each}
 use Rattle.tm_reassembly.proofs.Joining.{gap-each}
@@ -30,12 +30,12 @@ OnlyLine (Bad seen fault) = Unit {0}
 OnlyLine (MasterGap seen expected found missing) = Unit {0}
 OnlyLine _ = ⊥
 
-bad-lines : (number : ℕ) (rs : List Reading) → Each OnlyLine (leading_bad_items number rs)
+bad-lines : (number : ℕ) (rs : List FrameReading) → Each OnlyLine (leading_bad_items number rs)
 bad-lines number [] = tt
 bad-lines number (Err fault ∷ rs) = (tt, bad-lines (number + 1) rs)
 bad-lines number (Ok f ∷ rs) = tt
 
-gap-lines : (master : Option ℕ) (number : ℕ) (rs : List Reading) → Each OnlyLine (first_master_gap master number rs)
+gap-lines : (master : Option ℕ) (number : ℕ) (rs : List FrameReading) → Each OnlyLine (first_master_gap master number rs)
 gap-lines master number [] = tt
 gap-lines master number (Err fault ∷ rs) = gap-lines master (number + 1) rs
 gap-lines master number (Ok f ∷ rs) = gap-each OnlyLine master_gap_item master (master_member number f) (λ expected. tt)

@@ -13,7 +13,7 @@ use Rattle.tm_items.specs.Item.{Item, MasterGap, seen_of}
 use Rattle.tm_frame.specs.Rules.{IsLimit, Rules, chooses}
 use Rattle.tm_reassembly.specs.Items.{empty}
 use Rattle.tm_reassembly.specs.OlderForms.{without_master, first_good_record, is_gap_at, without_gaps_at}
-use Rattle.tm_reassembly.specs.Readings.{Reading}
+use Rattle.tm_reassembly.specs.Readings.{FrameReading}
 use Rattle.tm_reassembly.specs.Recording.{readings}
 use Rattle.tm_reassembly.specs.State.{State}
 use Rattle.tm_reassembly.specs.Valid.{AllOctets, HasShape, IsValidState}
@@ -104,12 +104,12 @@ without-early k ns xs h less =
     without-none ns xs
     (Each-weaken (λ x. seen_of x < k) (λ x. is_gap_at ns x ≡ false) xs (λ x e. ap (λ (b : Bool). is_master_gap x && b) (none-early k (seen_of x) ns h e) ∙ and-false (is_master_gap x)) less)
 
-good-from : (number : ℕ) (rs : List Reading) → AllFrom number (first_good_record number rs)
+good-from : (number : ℕ) (rs : List FrameReading) → AllFrom number (first_good_record number rs)
 good-from number [] = tt
 good-from number (Err fault ∷ rs) = Each-weaken (λ n. number + 1 ≤ n) (λ n. number ≤ n) (first_good_record (number + 1) rs) (λ n e. omega arith) (good-from (number + 1) rs)
 good-from number (Ok f ∷ rs) = (omega arith, tt)
 
-good-one : (number : ℕ) (rs : List Reading) → length (first_good_record number rs) ≤ 1
+good-one : (number : ℕ) (rs : List FrameReading) → length (first_good_record number rs) ≤ 1
 good-one number [] = omega arith
 good-one number (Err fault ∷ rs) = good-one (number + 1) rs
 good-one number (Ok f ∷ rs) = omega arith

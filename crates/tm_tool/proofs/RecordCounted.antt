@@ -9,7 +9,7 @@ use Rattle.tm_items.specs.Item.{Item, seen_of}
 use Rattle.tm_reassembly.specs.Chain.{ChainMember, chain, master_chain}
 use Rattle.tm_reassembly.specs.Items.{chain_parts, channel_items, gap_item, gaps, master_gap_item, master_items, part_item, record_items, seen_at, vca_at, closing, empty, items_of_readings, merged}
 use Rattle.tm_reassembly.specs.Parts.{Fate, Given, Held, Lost, Part}
-use Rattle.tm_reassembly.specs.Readings.{Reading}
+use Rattle.tm_reassembly.specs.Readings.{FrameReading}
 use Rattle.tm_reassembly.specs.Recording.{items, after, readings}
 use Rattle.tm_reassembly.specs.State.{State}
 use Rattle.tm_bits.proofs.Each.{Each, Each-append, Each-cond, Each-every, Each-filter, Each-flat_map}
@@ -66,11 +66,11 @@ none_channel limit channel ms =
     (every (chain_parts limit ms)))
 
 -- it isn't a good frame
-abbrev pub is_fault : Reading → Bool
+abbrev pub is_fault : FrameReading → Bool
 is_fault (Ok f) = false
 is_fault (Err fault) = true
 
-pub good_none : (limit : ℕ) (chosen : ℕ → Bool) (s : State) (readings : List Reading) (number : ℕ) (f : GoodFrame)
+pub good_none : (limit : ℕ) (chosen : ℕ → Bool) (s : State) (readings : List FrameReading) (number : ℕ) (f : GoodFrame)
     → NoneBad (record_items limit chosen s readings number (Ok f))
 good_none limit chosen s readings number f =
     let masters : List ChainMember = master_chain s readings in
@@ -81,7 +81,7 @@ good_none limit chosen s readings number f =
     (Each-cond NotBad (chosen f.channel) (seen_at number own)
     (λ e. Each-filter NotBad (λ x. seen_of x == number) own (none_channel limit f.channel (chain s f.channel readings))))
 
-bad_reading : (limit : ℕ) (chosen : ℕ → Bool) (s : State) (readings : List Reading) (number : ℕ) (r : Reading)
+bad_reading : (limit : ℕ) (chosen : ℕ → Bool) (s : State) (readings : List FrameReading) (number : ℕ) (r : FrameReading)
     → any_bad (record_items limit chosen s readings number r ++ []) ≡ is_fault r
 bad_reading limit chosen s readings number (Err fault) = refl
 bad_reading limit chosen s readings number (Ok f) =
@@ -99,11 +99,11 @@ pub seen_bad : (w : Work) (octets : List ℕ) (bad known : Bool) → bad ≡ any
     → is_fault (frame_reading_of w.rules.layout octets) ≡ known
 seen_bad w octets bad known is h = sym (bad_is_fault w octets) ∙ sym (or-false (any_bad (items_of w (octets ∷ [])))) ∙ sym is ∙ h
 
-pub no_fault : (r : Reading) → is_fault r ≡ false → IsOk r
+pub no_fault : (r : FrameReading) → is_fault r ≡ false → IsOk r
 no_fault (Ok f) h = refl
 no_fault (Err fault) h = cc
 
-pub a_fault : (r : Reading) → is_fault r ≡ true → (fault : FrameFault) × (r ≡ Err fault)
+pub a_fault : (r : FrameReading) → is_fault r ≡ true → (fault : FrameFault) × (r ≡ Err fault)
 a_fault (Ok f) h = cc
 a_fault (Err fault) h = (fault, refl)
 
@@ -116,7 +116,7 @@ module _ (w : Work) (octets : List ℕ) (before now : SummaryNumbers) (fit : All
   pub counted_bad : (fault : FrameFault) → frame_reading_of w.rules.layout octets ≡ Err fault → now ≡ with_all w.entries before (items_of w (octets ∷ []))
       → (t : Tally) → before ≡ numbers_of t → now ≡ numbers_of (and_records w t (octets ∷ []))
   counted_bad fault reads counted t are =
-      let none : good_frames w.rules.layout (octets ∷ []) ≡ [] = ap (λ (r : Reading). frames_in r ++ []) reads in
+      let none : good_frames w.rules.layout (octets ∷ []) ≡ [] = ap (λ (r : FrameReading). frames_in r ++ []) reads in
       counted ∙ all_given t are
       ∙ ap (λ (fs : List GoodFrame). numbers_of (record { frames = fs; items = t.items ++ items_of w (octets ∷ []); notes = t.notes ++ notes_among w.entries (items_of w (octets ∷ [])) }))
       (sym (ap (λ (fs : List GoodFrame). t.frames ++ fs) none ∙ append-nil t.frames))
@@ -125,7 +125,7 @@ module _ (w : Work) (octets : List ℕ) (before now : SummaryNumbers) (fit : All
       → now ≡ with_frame (with_all w.entries before (items_of w (octets ∷ []))) f.channel f.kind (length f.field)
       → (t : Tally) → before ≡ numbers_of t → now ≡ numbers_of (and_records w t (octets ∷ []))
   counted_good f reads below counted t are =
-      let one : good_frames w.rules.layout (octets ∷ []) ≡ f ∷ [] = ap (λ (r : Reading). frames_in r ++ []) reads in
+      let one : good_frames w.rules.layout (octets ∷ []) ≡ f ∷ [] = ap (λ (r : FrameReading). frames_in r ++ []) reads in
       counted
       ∙ ap (λ (n : SummaryNumbers). with_frame n f.channel f.kind (length f.field)) (all_given t are)
       ∙ sym (frame_counted (and_items t w.entries (items_of w (octets ∷ []))) f below)
@@ -146,9 +146,9 @@ no_bads (x ∷ xs) none =
 
 -- ---- records
 
-module _ (limit : ℕ) (chosen : ℕ → Bool) (s : State) (all : List Reading) where
+module _ (limit : ℕ) (chosen : ℕ → Bool) (s : State) (all : List FrameReading) where
   -- a record is a good frame or a bad one
-  one_told : (number : ℕ) (r : Reading) → goods (frames_in r) + bads (record_items limit chosen s all number r) ≡ 1
+  one_told : (number : ℕ) (r : FrameReading) → goods (frames_in r) + bads (record_items limit chosen s all number r) ≡ 1
   one_told number (Err fault) = refl
   one_told number (Ok f) =
       omega (arith, no_bads (record_items limit chosen s all number (Ok f)) (good_none limit chosen s all number f))
@@ -156,7 +156,7 @@ module _ (limit : ℕ) (chosen : ℕ → Bool) (s : State) (all : List Reading) 
   records_told : (layout : LayoutParts) (number : ℕ) (rs : List (List ℕ)) → goods (good_frames layout rs) + bads (merged limit chosen s all number (readings layout rs)) ≡ length rs
   records_told layout number [] = refl
   records_told layout number (r ∷ rs) =
-      let reading : Reading = frame_reading_of layout r in
+      let reading : FrameReading = frame_reading_of layout r in
       rw (
         sum_by-append (λ (f : GoodFrame). 1) (frames_in reading) (good_frames layout rs),
         sum_by-append (λ (x : Item). if is_bad x then 1 else 0) (record_items limit chosen s all number reading) (merged limit chosen s all (number + 1) (readings layout rs)),

@@ -8,7 +8,7 @@ unfoldable pub remainder_from : ℕ → List Bool → ℕ
 remainder_from register bits =
     number (long_division (length bits) (subtract (bits ++ replicate 16 false) (low_bits 16 register)))
 
--- the remainder of the bits, with n zero bits and 16 more behind them
+-- the remainder of the bits, with n zero bits and 16 more after them
 abbrev pub shifted : ℕ → List Bool → ℕ
 shifted n bits = remainder_from 0 (bits ++ replicate n false)
 

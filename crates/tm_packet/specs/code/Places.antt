@@ -1,4 +1,4 @@
--- What is kept of a pair as one number: the first count of the open group, and behind it the last count, each FFFF where there is none.
+-- What is kept of a pair as one number: the first count of the open group, and after it the last count, each FFFF where there is none.
 use Rattle.std.specs.Prelude.{ℕ, ◌≡◌, ◌+◌, ◌*◌, ◌/◌, ◌%◌, ◌==◌, Option, Some, None, if◌then◌else◌}
 use Rattle.tm_packet.specs.declared.tracker.PairEntry.{PairEntry}
 use Rattle.tm_packet.specs.Spelling.{first_number, first_count_of}

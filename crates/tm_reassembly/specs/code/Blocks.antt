@@ -45,7 +45,7 @@ abbrev pub IsMaster : Form → List ℕ → Option ℕ × ℕ → Type 0
 IsMaster form xs read =
     (master_read_in form xs ≡ Ok (record { count = read.0; octets = read.1 })) × IsCount read.0 × (read.1 ≤ length xs) × (read.1 ≤ 2)
 
--- what octets spell behind a number of records and a last master channel count, which the first so many octets spelled
+-- what octets spell after a number of records and a last master channel count, which the first so many octets spelled
 abbrev pub channels_decoding : ℕ → Option ℕ → ℕ → Rules → List ℕ → Result DecodedState StateFault
 channels_decoding records master octets rules xs = with_channels records master octets (blocks_read rules records 8 0 xs)
 

@@ -1,7 +1,7 @@
 -- What holds of the frames and tails that are gone through. These stand in private contracts and in proofs alone.
 use Rattle.std.specs.Prelude.{ℕ, ◌<◌, ◌≤◌, Option, Some, None, Ok, Err, List, length}
 use Rattle.std.specs.List.{AllByRecursion}
-use Rattle.tm_reassembly.specs.Readings.{Reading}
+use Rattle.tm_reassembly.specs.Readings.{FrameReading}
 use Rattle.tm_reassembly.specs.State.{Tail}
 use Rattle.tm_reassembly.specs.Chain.{ChainMember, start_place_of, counted_field}
 use Rattle.tm_reassembly.specs.Valid.{IsTail}
@@ -19,12 +19,12 @@ abbrev pub PlacesFit : List ChainMember → Type 0
 PlacesFit ms = AllByRecursion IsPlaced ms
 
 -- a good frame's channel is one of eight, and its place isn't past its field's end
-abbrev pub IsFit : Reading → Type 0
+abbrev pub IsFit : FrameReading → Type 0
 IsFit (Err fault) = Unit {0}
 IsFit (Ok f) = (f.channel < 8) × PlaceFits (start_place_of f.kind) (length (counted_field f.kind f.field))
 
 -- likewise of each reading
-abbrev pub AllReadingsFit : List Reading → Type 0
+abbrev pub AllReadingsFit : List FrameReading → Type 0
 AllReadingsFit rs = AllByRecursion IsFit rs
 
 -- what is held, if anything, is an unfinished packet

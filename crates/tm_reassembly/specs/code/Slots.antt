@@ -60,7 +60,7 @@ tail_in (Some last) = last.tail
 abbrev pub member_at : ℕ → Option ℕ → List ℕ → ChainMember
 member_at number place field = record { number = number; count = 0; is_vca = false; place = place; field = field; base = 0 }
 
--- a tail with more octets behind it
+-- a tail with more octets after it
 abbrev pub grown : Option Tail → List ℕ → Option Tail
 grown None more = None
 grown (Some t) more = Some (record { first = t.first; place = t.place; octets = t.octets ++ more })
@@ -81,7 +81,7 @@ HoldsLast old new last = (new.last ≡ last) × (new.limit ≡ old.limit) × (ol
 abbrev pub LeavesLast : {T F : Type 0} → Slot → Slot → Option Last → Result T F → Type 0
 LeavesLast old new last r = OnOk r (new.last ≡ last) × (new.limit ≡ old.limit) × (old.room ≤ new.room)
 
--- a tail is held, and a packet may have its octets and these behind them
+-- a tail is held, and a packet may have its octets and these after them
 abbrev pub MayGrow : Buffer → List ℕ → Type 0
 MayGrow x more = (0 < length (octets_in x.tail)) × (length (octets_in x.tail) + length more ≤ x.limit)
 
@@ -89,7 +89,7 @@ MayGrow x more = (0 < length (octets_in x.tail)) × (length (octets_in x.tail) +
 abbrev pub MayComplete : Buffer → List ℕ → Type 0
 MayComplete x more = MayGrow x more × IsOnePacket (octets_in x.tail ++ more)
 
--- the packet of a tail with more octets behind it
+-- the packet of a tail with more octets after it
 abbrev pub completed : Option Tail → List ℕ → ℕ → List Part
 completed None more seen = []
 completed (Some t) more seen = record { first = t.first; place = t.place; octets = t.octets ++ more; fate = Given seen } ∷ []

@@ -94,8 +94,8 @@ pub record RowsState : Type 0 where
   pub fields : List Field
   pub form : RowForm
   pub row : List ℕ
-  pub room : ℕ
+  pub capacity : ℕ
 
 -- the memory for a row of the binary form was taken
-abbrev pub HasRoom : RowsState → Type 0
-HasRoom rows = (rows.form ≡ Binary) × (row_length rows.fields ≤ rows.room)
+abbrev pub HasCapacity : RowsState → Type 0
+HasCapacity rows = (rows.form ≡ Binary) × (row_length rows.fields ≤ rows.capacity)

@@ -1,7 +1,7 @@
 //! The rows of a definition, written one after another.
 
 ghost use Rattle.std.specs.Prelude.{◌≡◌, ◌≢◌, [], IfErr, OnErr, OnOk};
-ghost use Rattle.tm_fields.specs.Rows.{HasRoom, IsRow, RefusesRow, RefusesShort, bits_needed};
+ghost use Rattle.tm_fields.specs.Rows.{HasCapacity, IsRow, RefusesRow, RefusesShort, bits_needed};
 ghost use Rattle.tm_fields.specs.declared.faults.RowFault.TheVariants.{NoMemory};
 ghost use Rattle.tm_fields.specs.declared.rows.RowForm.TheVariants.{Binary};
 
@@ -41,7 +41,7 @@ impl<'a> Model for Rows<'a> {
 
     ghost Value = { RowsState };
 
-    ghost view = { λ r. record { fields = r.definition.now; form = r.form; row = r.row.items; room = vec_capacity r.row } };
+    ghost view = { λ r. record { fields = r.definition.now; form = r.form; row = r.row.items; capacity = vec_capacity r.row } };
 }
 
 impl<'a> Rows<'a> {
@@ -87,8 +87,8 @@ impl<'a> Rows<'a> {
         ensures none { OnErr result (self.new.row ≡ []) }
         ensures refused { IfErr result (RefusesRow self.old.form self.old.fields lead packet.now) }
         ensures short { RefusesShort self.old.fields packet.now result }
-        ensures room { OnOk result (self.old.form ≡ Binary → HasRoom self.new) }
-        ensures enough { HasRoom self.old → IfErr result (λ f. f ≢ NoMemory) }
+        ensures capacity { OnOk result (self.old.form ≡ Binary → HasCapacity self.new) }
+        ensures enough { HasCapacity self.old → IfErr result (λ f. f ≢ NoMemory) }
     {
         self.row.clear();
         self.definition.check_length(packet)?;

@@ -149,7 +149,7 @@ module _ (rules : Rules) (seen : ℕ) (master : Option ℕ) (slots : List Slot) 
       let at : c < length slots = omega (arith, eight_slots) in
       rw ((limit_at rules.max_packet slots c d limits at).0, ← last_at slots c d) (open_entry rules (state_in_slots seen master slots) v c d.last small)
 
-  pub limit_slot : (c : ℕ) (d x : Slot) → c < 8 → x.limit ≡ (slice_index_or slots c d).limit → (slice_index_or slots c d).room ≤ x.room
+  pub limit_slot : (c : ℕ) (d x : Slot) → c < 8 → x.limit ≡ (slice_index_or slots c d).limit → (slice_index_or slots c d).capacity ≤ x.capacity
       → HaveLimit rules.max_packet (slice_set slots c x)
   limit_slot c d x small e f =
       let there = limit_at rules.max_packet slots c d limits (omega (arith, eight_slots)) in

@@ -7,7 +7,7 @@ use Rattle.std.proofs.lemmas.Option.{slice_get-get_or}
 use Rattle.std.proofs.lemmas.List.Concat.{flat_map-append}
 use Rattle.tm_reassembly.specs.Checkpoint.{block}
 use Rattle.tm_reassembly.specs.Items.{close_last, close_channels}
-use Rattle.tm_reassembly.specs.code.Slots.{Slot, HaveLimit, IsFor, lasts, rooms}
+use Rattle.tm_reassembly.specs.code.Slots.{Slot, HaveLimit, IsFor, lasts, capacities}
 use Rattle.tm_reassembly.specs.State.{Last}
 
 -- what is kept in a slot
@@ -35,17 +35,17 @@ limit_set limit slots c x h e = λ i y f. at slots c i y (λ y f. h i y f) f
     at zs c i y k f = k y f
 
 -- the room of them all
-rooms_are : (limit : ℕ) (slots : List Slot) → HaveLimit limit slots → rooms slots ≡ length slots * limit
-rooms_are limit [] h = omega arith
-rooms_are limit (x ∷ xs) h =
-    let here : min x.limit x.room ≡ limit = omega (arith, (h 0 x refl).0, (h 0 x refl).1) in
-    let others : rooms xs ≡ length xs * limit = rooms_are limit xs (λ c y e. h (suc c) y e) in
+capacities_are : (limit : ℕ) (slots : List Slot) → HaveLimit limit slots → capacities slots ≡ length slots * limit
+capacities_are limit [] h = omega arith
+capacities_are limit (x ∷ xs) h =
+    let here : min x.limit x.capacity ≡ limit = omega (arith, (h 0 x refl).0, (h 0 x refl).1) in
+    let others : capacities xs ≡ length xs * limit = capacities_are limit xs (λ c y e. h (suc c) y e) in
     omega (arith, here, others)
 
-pub rooms_of_eight : (limit : ℕ) (slots : List Slot) → HaveLimit limit slots → length (lasts slots) ≡ 8 → rooms slots ≡ 8 * limit
-rooms_of_eight limit slots h eight =
+pub capacities_of_eight : (limit : ℕ) (slots : List Slot) → HaveLimit limit slots → length (lasts slots) ≡ 8 → capacities slots ≡ 8 * limit
+capacities_of_eight limit slots h eight =
     let all : length slots ≡ 8 = sym (lasts_length slots) ∙ eight in
-    rooms_are limit slots h ∙ ap (λ (n : ℕ). n * limit) all
+    capacities_are limit slots h ∙ ap (λ (n : ℕ). n * limit) all
 
 drop_last : (slots : List Slot) (c : ℕ) (d : Slot) → c < length slots → drop c (lasts slots) ≡ (slice_index_or slots c d).last ∷ drop (c + 1) (lasts slots)
 drop_last slots c d h =

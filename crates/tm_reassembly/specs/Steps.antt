@@ -19,11 +19,11 @@ pub record Progress : Type 0 where
   pub rules : Rules
   pub state : State
   pub failed : Bool
-  pub room : ℕ
+  pub capacity : ℕ
 
 -- in a state, with room for a packet in each channel
 abbrev pub progress_in : Rules → State → Progress
-progress_in rules state = record { rules = rules; state = state; failed = false; room = 8 * rules.max_packet }
+progress_in rules state = record { rules = rules; state = state; failed = false; capacity = 8 * rules.max_packet }
 
 -- before any record
 abbrev pub new_progress : Rules → Progress
@@ -34,7 +34,7 @@ abbrev pub step_items : Progress → List ℕ → List Item
 step_items p octets = items p.rules p.state (octets ∷ [])
 
 abbrev pub stepped : Progress → List ℕ → Progress
-stepped p octets = record { rules = p.rules; state = after p.rules p.state (octets ∷ []); failed = false; room = p.room }
+stepped p octets = record { rules = p.rules; state = after p.rules p.state (octets ∷ []); failed = false; capacity = p.capacity }
 
 -- the last count that a state has of a channel
 abbrev pub count_of_last : Option (Option Last) → Option ℕ

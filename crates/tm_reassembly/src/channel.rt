@@ -34,7 +34,7 @@ pub struct ChannelState {
 impl Model for ChannelState {
     ghost Value = { Slot };
 
-    ghost view = { λ k. record { limit = k.tail.limit; room = k.tail.room; last = last_with k.tail.tail k.count } };
+    ghost view = { λ k. record { limit = k.tail.limit; capacity = k.tail.capacity; last = last_with k.tail.tail k.count } };
 
     ghost invariant = { λ k. k.count ≡ None → k.tail.tail ≡ None };
 }
@@ -43,7 +43,7 @@ impl ChannelState {
     /// The state of a channel that had no frame, with capacity for a tail.
     pub fn new(alloc: Global, limit: usize) -> Result<ChannelState, AllocError>
         requires { IsLimit limit }
-        ensures { IfOk result (λ state. state ≡ record { limit = limit; room = limit; last = None }) }
+        ensures { IfOk result (λ state. state ≡ record { limit = limit; capacity = limit; last = None }) }
     {
         Ok(ChannelState {
             count: None,

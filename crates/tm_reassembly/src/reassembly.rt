@@ -6,7 +6,7 @@ ghost use Rattle.tm_frame.specs.Layout.{record_length_of};
 ghost use Rattle.tm_reassembly.specs.Checkpoint.{block, state_spelling, blocks_read, state_decoding_of, old_decoding_of};
 ghost use Rattle.tm_reassembly.specs.code.Blocks.{KeepBlocks, channels_decoding, decoding_in};
 ghost use Rattle.tm_reassembly.specs.Items.{closing, close_channels};
-ghost use Rattle.tm_reassembly.specs.code.Slots.{HaveLimit, lasts, rooms, state_in_slots, unused};
+ghost use Rattle.tm_reassembly.specs.code.Slots.{HaveLimit, lasts, capacities, state_in_slots, unused};
 ghost use Rattle.tm_reassembly.specs.State.{octets_in, State, Last};
 ghost use Rattle.tm_reassembly.specs.Recording.{items, after, is_chosen_frame};
 ghost use Rattle.tm_frame.specs.Rules.{IsLimit, chooses};
@@ -43,7 +43,7 @@ impl Model for Reassembly {
       rules = r.rules;
       state = state_in_slots r.records r.master r.states;
       failed = r.failed;
-      room = rooms r.states;
+      capacity = capacities r.states;
     } };
 
     ghost invariant = { λ r. r.failed ≡ false → IsValidState r.rules (state_in_slots r.records r.master r.states)

@@ -39,7 +39,7 @@ impl Model for Tail {
 
     ghost view = { λ t. record {
       limit = t.limit;
-      room = vec_capacity t.octets;
+      capacity = vec_capacity t.octets;
       tail = tail_of_octets t.first t.place t.octets.items;
     } };
 
@@ -50,7 +50,7 @@ impl Tail {
     /// No tail, with its room.
     pub fn new(alloc: Global, limit: usize) -> Result<Tail, AllocError>
         requires { IsLimit limit }
-        ensures { IfOk result (λ tail. tail ≡ record { limit = limit; room = limit; tail = None }) }
+        ensures { IfOk result (λ tail. tail ≡ record { limit = limit; capacity = limit; tail = None }) }
     {
         Ok(Tail {
             limit,

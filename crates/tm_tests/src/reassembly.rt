@@ -1,7 +1,7 @@
 //! Records of channels, with the packets and the lost parts that they give.
 
 use crate::refused::{OLD_STATE, STATE, TAIL, is_state};
-use crate::refusing::{Wanted, finish, step};
+use crate::refusing::{Expected, finish, step};
 use crate::runs::{
     GREATEST_PACKET, HELD_AFTER_FIRST_RECORD, Row, SHORT_REST, TWO_CHANNELS, TWO_PACKETS,
     octets_of, settings_of,
@@ -62,8 +62,8 @@ fn channels(rt: HostRuntime) {
 }
 
 // A sink that wants these items and the octets of their packets, and refuses none of them.
-fn sink_of<'w>(alloc: Global, items: &'w str, octets: &'w [u8]) -> Wanted<'w> {
-    Wanted {
+fn sink_of<'w>(alloc: Global, items: &'w str, octets: &'w [u8]) -> Expected<'w> {
+    Expected {
         alloc,
         items: items.as_bytes(),
         octets,
@@ -77,7 +77,7 @@ fn after_records(
     alloc: Global,
     row: &Row,
     records: usize,
-    sink: &mut Wanted<'_>,
+    sink: &mut Expected<'_>,
 ) -> Option<Reassembly> {
     let settings = settings_of(alloc, row.settings)?;
     let layout = settings.layout();

@@ -7,7 +7,7 @@ use tm_reassembly::{Item, Reassembly, Sink, StepFault};
 
 /// A sink that wants these items and the octets of these packets, one after the other. It refuses the item at `refuses`.
 #[derive(Drop)]
-pub(crate) struct Wanted<'w> {
+pub(crate) struct Expected<'w> {
     pub(crate) alloc: Global,
     pub(crate) items: &'w [u8],
     pub(crate) octets: &'w [u8],
@@ -114,7 +114,7 @@ fn words_of(alloc: Global, item: Item<'_>) -> Result<String, AllocError> {
     }
 }
 
-impl Sink for Wanted<'_> {
+impl Sink for Expected<'_> {
     type Fault = Refused;
 
     ghost Known = { Unit {0} };
@@ -154,7 +154,7 @@ pub(crate) type StepAnswer = Result<(), StepFault<Refused>>;
 pub(crate) fn step(
     reassembly: &mut Reassembly,
     record: &[u8],
-    sink: &mut Wanted<'_>,
+    sink: &mut Expected<'_>,
 ) -> StepAnswer {
     if record.len() != reassembly.layout().record_length() {
         return Err(StepFault::Sink(Refused::Other));
@@ -163,7 +163,7 @@ pub(crate) fn step(
 }
 
 /// Finishes, with a rest of less than a record.
-pub(crate) fn finish(reassembly: Reassembly, rest: usize, sink: &mut Wanted<'_>) -> StepAnswer {
+pub(crate) fn finish(reassembly: Reassembly, rest: usize, sink: &mut Expected<'_>) -> StepAnswer {
     if rest >= reassembly.layout().record_length() {
         return Err(StepFault::Sink(Refused::Other));
     }
@@ -176,7 +176,7 @@ const AS_ASKED: StepAnswer = Err(StepFault::Sink(Refused::AsAsked));
 fn is_refused(
     reassembly: &mut Reassembly,
     recording: &[u8],
-    sink: &mut Wanted<'_>,
+    sink: &mut Expected<'_>,
 ) -> Option<bool> {
     for record in recording.chunks_exact(reassembly.layout().record_length()) {
         let records = reassembly.records();
@@ -193,7 +193,7 @@ fn is_refused(
 
 // Steps through the records, and finishes, up to the item that the sink refuses, if there is one. Only the first call is refused by the
 // sink, and each further one since it was.
-fn runs_into(alloc: Global, row: &Row, sink: &mut Wanted<'_>, is_asked: bool) -> Option<bool> {
+fn runs_into(alloc: Global, row: &Row, sink: &mut Expected<'_>, is_asked: bool) -> Option<bool> {
     let settings = settings_of(alloc, row.settings)?;
     let layout = settings.layout();
     let limit = settings.max_packet();
@@ -212,7 +212,7 @@ fn runs_into(alloc: Global, row: &Row, sink: &mut Wanted<'_>, is_asked: bool) ->
 // The item of this number is refused: those before it are taken, and no other.
 fn is_cut_at(alloc: Global, row: &Row, refuses: usize, is_asked: bool) -> Option<bool> {
     let octets = octets_of(alloc, row.octets)?;
-    let mut sink = Wanted {
+    let mut sink = Expected {
         alloc,
         items: row.items.as_bytes(),
         octets: &octets,

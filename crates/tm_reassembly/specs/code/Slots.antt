@@ -12,31 +12,31 @@ use Rattle.tm_items.specs.OnePacket.{IsOnePacket}
 -- what a tail's place is seen as: how many octets a packet may have, for how many octets there is room, and the tail that is held
 pub record Buffer : Type 0 where
   pub limit : ℕ
-  pub room : ℕ
+  pub capacity : ℕ
   pub tail : Option Tail
 
 -- the same for a channel, whose last count is kept too
 pub record Slot : Type 0 where
   pub limit : ℕ
-  pub room : ℕ
+  pub capacity : ℕ
   pub last : Option Last
 
 -- a channel without anything kept, with capacity for a packet
 abbrev pub unused : ℕ → Slot
-unused limit = record { limit = limit; room = limit; last = None }
+unused limit = record { limit = limit; capacity = limit; last = None }
 
 -- what is kept of the channels
 abbrev pub lasts : List Slot → List (Option Last)
 lasts slots = map (λ x. x.last) slots
 
 -- for how many octets of packets there is room in all of them, in each for no more than a packet may have
-abbrev pub rooms : List Slot → ℕ
-rooms [] = 0
-rooms (x ∷ xs) = min x.limit x.room + rooms xs
+abbrev pub capacities : List Slot → ℕ
+capacities [] = 0
+capacities (x ∷ xs) = min x.limit x.capacity + capacities xs
 
 -- a packet may have so many octets here, and there is room for them
 abbrev pub IsFor : ℕ → Slot → Type 0
-IsFor limit x = (x.limit ≡ limit) × (limit ≤ x.room)
+IsFor limit x = (x.limit ≡ limit) × (limit ≤ x.capacity)
 
 -- likewise in each of them
 abbrev pub HaveLimit : ℕ → List Slot → Type 0
@@ -67,19 +67,19 @@ grown (Some t) more = Some (record { first = t.first; place = t.place; octets = 
 
 -- the tail is this from then on; its limit stays, and its room doesn't shrink
 abbrev pub HoldsTail : Buffer → Buffer → Option Tail → Type 0
-HoldsTail old new tail = (new.tail ≡ tail) × (new.limit ≡ old.limit) × (old.room ≤ new.room)
+HoldsTail old new tail = (new.tail ≡ tail) × (new.limit ≡ old.limit) × (old.capacity ≤ new.capacity)
 
 -- likewise, but that nothing is said of the tail where the call is refused
 abbrev pub LeavesTail : {T F : Type 0} → Buffer → Buffer → Option Tail → Result T F → Type 0
-LeavesTail old new tail r = OnOk r (new.tail ≡ tail) × (new.limit ≡ old.limit) × (old.room ≤ new.room)
+LeavesTail old new tail r = OnOk r (new.tail ≡ tail) × (new.limit ≡ old.limit) × (old.capacity ≤ new.capacity)
 
 -- what is kept of the channel is this from then on; its limit stays, and its room doesn't shrink
 abbrev pub HoldsLast : Slot → Slot → Option Last → Type 0
-HoldsLast old new last = (new.last ≡ last) × (new.limit ≡ old.limit) × (old.room ≤ new.room)
+HoldsLast old new last = (new.last ≡ last) × (new.limit ≡ old.limit) × (old.capacity ≤ new.capacity)
 
 -- likewise, but that nothing is said of it where the call is refused
 abbrev pub LeavesLast : {T F : Type 0} → Slot → Slot → Option Last → Result T F → Type 0
-LeavesLast old new last r = OnOk r (new.last ≡ last) × (new.limit ≡ old.limit) × (old.room ≤ new.room)
+LeavesLast old new last r = OnOk r (new.last ≡ last) × (new.limit ≡ old.limit) × (old.capacity ≤ new.capacity)
 
 -- a tail is held, and a packet may have its octets and these after them
 abbrev pub MayGrow : Buffer → List ℕ → Type 0

@@ -1,8 +1,8 @@
 use Rattle.std.proofs.Common.{◌≡◌, false, sym, subst, ◌∙◌, arith, rules}
 use Rattle.tm_bits.specs.Bits.{AreOctets}
-use Rattle.tm_reassembly.specs.code.Slots.{rooms}
+use Rattle.tm_reassembly.specs.code.Slots.{capacities}
 use Rattle.tm_reassembly.specs.Valid.{IsValidState}
-use Rattle.tm_reassembly.proofs.Slots.{rooms_of_eight}
+use Rattle.tm_reassembly.proofs.Slots.{capacities_of_eight}
 use Rattle.tm_reassembly.proofs.States.{record-valid}
 use Rattle.tm_reassembly.proofs.reassembly.Reassembly.step_record.Goals as goal
 
@@ -20,7 +20,7 @@ returns-in-Ok-clause-left g c =
     let old = c.self.invariant going in
     let octets : AreOctets c.args.octets.now = record { below = λ i. omega (arith, c.type_inv.octets i) } in
     let new = subst (IsValidState c.self.inside.rules) (sym c.in-Ok.ensures.left) (record-valid c.self.inside.rules _ c.args.octets.now old.0 octets (omega (arith, c.if-self.false))) in
-    let room : rooms c.add_record.new.states ≡ rooms c.self.inside.states =
-    rooms_of_eight c.self.inside.rules.max_packet c.add_record.new.states c.in-Ok.ensures.limit new.shape.eight_channels
-    ∙ sym (rooms_of_eight c.self.inside.rules.max_packet c.self.inside.states old.1 old.0.shape.eight_channels) in
-    rw (← c.self.view_is, going, room, c.in-Ok.ensures.left)
+    let capacity : capacities c.add_record.new.states ≡ capacities c.self.inside.states =
+    capacities_of_eight c.self.inside.rules.max_packet c.add_record.new.states c.in-Ok.ensures.limit new.shape.eight_channels
+    ∙ sym (capacities_of_eight c.self.inside.rules.max_packet c.self.inside.states old.1 old.0.shape.eight_channels) in
+    rw (← c.self.view_is, going, capacity, c.in-Ok.ensures.left)

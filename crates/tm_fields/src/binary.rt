@@ -9,7 +9,7 @@ ghost use Rattle.tm_fields.specs.Reading.{end_of, greatest_end, is_sound};
 use crate::field::{DataType, Field};
 use crate::lead::Lead;
 use crate::numbers::number_from;
-use crate::values::{aligned_octets, power};
+use crate::values::aligned_octets;
 use tm_bits::push;
 
 // A number in two's complement, with its sign extended.
@@ -19,13 +19,15 @@ fn extend_sign(bits: u32, number: u64) -> u64
     requires bound { number < 2 ^ bits }
     ensures { result ≡ extended bits number }
 {
-    if u128::from(number) < power(bits - 1) {
+    let sign = 1u64 << (bits - 1);
+    if number < sign {
         return number;
     }
-    number + (power(64) - power(bits)) as u64
+    (number - sign).wrapping_sub(sign)
 }
 
 // Appends a number of `bits` bits, the least significant octet first.
+#[inline(always)]
 fn push_number(row: &mut Vec<u8>, bits: u32, number: u64)
     requires { vec_len row.old + number_length bits ≤ vec_capacity row.old }
     ensures items { row.new.items ≡ row.old.items ++ little_bytes (number_length bits) number }

@@ -1,8 +1,8 @@
 -- The row of a packet, and the line of one that is too short.
-use Rattle.std.proofs.Common.{◌≡◌, ◌≢◌, ◌<◌, ℕ, Bool, true, false, List, [], ◌++◌, refl, ap, Ok, Err}
+use Rattle.std.proofs.Common.{◌≡◌, ◌≢◌, ◌<◌, ℕ, Bool, true, false, List, [], ◌∷◌, ◌++◌, refl, ap, Ok, Err}
 use Rattle.std.specs.Prelude.{◌==◌, if◌then◌else◌, nat_lt}
 use Rattle.std.specs.List.{flat_map}
-use Rattle.std.proofs.lemmas.Bool.{ltb-true}
+use Rattle.std.proofs.lemmas.Bool.{false≢true, ltb-true, not-true}
 use Rattle.tm_fields.specs.declared.faults.RowFault.TheVariants.{ShortPacket}
 use Rattle.tm_fields.specs.declared.field.Field.{Field}
 use Rattle.tm_fields.specs.declared.lead.Lead.{Lead}
@@ -12,9 +12,21 @@ use Rattle.tm_fields.specs.Numbers.{bits_in}
 use Rattle.tm_fields.specs.Rows.{bits_needed, lead_texts, printed, row_from, row_in}
 use Rattle.tm_fields.proofs.LineLemmas.{some_text}
 use Rattle.tm_packet.specs.Header.{Fields, packet_header_of}
-use Rattle.tm_items.specs.Item.{Packet}
+use Rattle.tm_items.specs.Item.{Item, Packet}
 use Rattle.tm_lines.specs.Lines.{short_packet_line}
-use Rattle.tm_output.specs.FieldRows.{lead_of, row_or_none, tabled}
+use Rattle.tm_output.specs.FieldRows.{is_of_other, lead_of, row_or_none, tabled}
+use Rattle.tm_output.specs.code.Quiet.{AreJoined}
+
+-- packets of other applications have no rows
+other_none : (form : RowForm) (fields : List Field) (wanted : ℕ) (x : Item) → is_of_other wanted x ≡ true → tabled form fields wanted x ≡ []
+unfolding is_of_other tabled
+other_none form fields wanted (Packet seen channel first place octets) e = rw (not-true _ e) refl
+other_none form fields wanted _ e = absurd (false≢true e)
+
+pub others_none : (form : RowForm) (fields : List Field) (wanted : ℕ) (xs : List Item) → AreJoined (is_of_other wanted) xs
+    → flat_map (tabled form fields wanted) xs ≡ []
+others_none form fields wanted [] joined = refl
+others_none form fields wanted (x ∷ xs) joined = rw (other_none form fields wanted x joined.0, others_none form fields wanted xs joined.1) refl
 
 -- what is made under the numbers of a packet's header is its row
 pub tabled_is : (form : RowForm) (fields : List Field) (wanted seen channel first place application count : ℕ) (octets row : List ℕ) (h : Fields) → h ≡ packet_header_of octets

@@ -1,5 +1,5 @@
 -- Packets at the front of a span: the first of them, and those that add nothing to the report.
-use Rattle.std.proofs.Common.{◌≡◌, ◌≢◌, ℕ, Bool, false, ◌+◌, ◌-◌, ◌<◌, ◌≤◌, Some, None, List, [], ◌∷◌, ◌++◌, length, take, drop, refl, sym, ap, subst, ◌∙◌, append-nil, append_assoc, length-append, arith, inl, inr, ⊎_elim}
+use Rattle.std.proofs.Common.{◌≡◌, ◌≢◌, ℕ, Bool, false, true, ◌+◌, ◌-◌, ◌<◌, ◌≤◌, Some, None, List, [], ◌∷◌, ◌++◌, length, take, drop, refl, sym, ap, subst, ◌∙◌, append-nil, append_assoc, length-append, arith, inl, inr, ⊎_elim}
 use Rattle.std.specs.Borrow.{Bor}
 use Rattle.std.proofs.KnownBytes.{Appends-nil}
 use Rattle.std.proofs.lemmas.Bool.{cases_lt}
@@ -22,7 +22,7 @@ use Rattle.tm_packet.specs.Merge.{Entries}
 use Rattle.tm_output.specs.Pieces.{Texts, noted, noted_all, piece_of}
 use Rattle.tm_output.specs.Seen.{OutputState}
 use Rattle.tm_output.specs.Packets.{item_with}
-use Rattle.tm_output.specs.code.Quiet.{AreFirst, AreQuiet, HasNoted, IsFirstPacket, IsQuiet, IsAccepted, outs_of, span_items}
+use Rattle.tm_output.specs.code.Quiet.{AreFirst, AreJoined, AreQuiet, HasNoted, IsFirstPacket, IsQuiet, IsAccepted, outs_of, span_items}
 use Rattle.tm_lines.specs.declared.packet.Packet as lent
 use Rattle.tm_output.specs.code.Sinking.{Refuses, Takes}
 use Rattle.tm_output.proofs.PacketLemmas.{none_both}
@@ -87,8 +87,12 @@ quiet_more : {A : Type 0} (text : Texts A) (entries : Entries) (xs : List Item) 
 quiet_more text entries [] x quiet none = (none, tt)
 quiet_more text entries (y ∷ ys) x quiet none = (quiet.0, quiet_more text (noted entries y) ys x quiet.1 none)
 
-module _ {A : Type 0} (text : Texts A) (limit : ℕ) (old : Entries) (totals : Totals) (span : Span) where
-  pub noted_none : HasNoted text limit old old totals totals span 0
+joined_more : (joins : Item → Bool) (xs : List Item) (x : Item) → AreJoined joins xs → joins x ≡ true → AreJoined joins (xs ++ x ∷ [])
+joined_more joins [] x joined one = (one, tt)
+joined_more joins (y ∷ ys) x joined one = (joined.0, joined_more joins ys x joined.1 one)
+
+module _ {A : Type 0} (text : Texts A) (joins : Item → Bool) (limit : ℕ) (old : Entries) (totals : Totals) (span : Span) where
+  pub noted_none : HasNoted text joins limit old old totals totals span 0
   noted_none = record {
     packets = [];
     first = record { inside = omega arith; octets = refl; front = refl };
@@ -96,15 +100,16 @@ module _ {A : Type 0} (text : Texts A) (limit : ℕ) (old : Entries) (totals : T
     noted_is = refl;
     totals_is = refl;
     quiet = tt;
+    joined = tt;
   }
 
   -- and the next one
   pub noted_next : (now next : Entries) (sum : Totals) (given : Bool) (at : ℕ) (left : Bor (List ℕ)) (packet : lent.Packet)
       → left.now ≡ drop at span.octets.now
-      → HasNoted text limit old now totals sum span at → IsFirstPacket limit (record span { place = span.place + at; octets = left }) packet
-      → IsQuiet text now (item_with packet) → next ≡ noted now (item_with packet) → given ≡ text.given (item_with packet)
-      → HasNoted text limit old next totals (totals_with_packet sum given false false) span (at + length packet.octets.now)
-  noted_next now next sum given at left packet all done head silent after given_is =
+      → HasNoted text joins limit old now totals sum span at → IsFirstPacket limit (record span { place = span.place + at; octets = left }) packet
+      → joins (item_with packet) ≡ true → IsQuiet text now (item_with packet) → next ≡ noted now (item_with packet) → given ≡ text.given (item_with packet)
+      → HasNoted text joins limit old next totals (totals_with_packet sum given false false) span (at + length packet.octets.now)
+  noted_next now next sum given at left packet all done head one silent after given_is =
       let octets = span.octets.now in
       let p = packet.octets.now in
       let n = length p in
@@ -134,12 +139,13 @@ module _ {A : Type 0} (text : Texts A) (limit : ℕ) (old : Entries) (totals : T
             quiet_counted text now sum packet.seen packet.channel packet.first packet.place p given silent given_is
             ∙ rw (head.item, done.totals_is, done.noted_is, items, items_counted) refl;
         quiet = rw items (quiet_more text old before x done.quiet (rw (head.item, done.noted_is) at silent));
+        joined = rw items (joined_more joins before x done.joined (rw head.item at one));
       }
 
 -- no octets were noted, and so nothing
-pub nothing_noted : {A : Type 0} (text : Texts A) (limit : ℕ) (old new : Entries) (totals sum : Totals) (span : Span) (many : ℕ)
-    → HasNoted text limit old new totals sum span many → many ≡ 0 → (new ≡ old) × (sum ≡ totals)
-nothing_noted text limit old new totals sum span many done none = (rw (done.none none) at done.noted_is, rw (done.none none) at done.totals_is)
+pub nothing_noted : {A : Type 0} (text : Texts A) (joins : Item → Bool) (limit : ℕ) (old new : Entries) (totals sum : Totals) (span : Span) (many : ℕ)
+    → HasNoted text joins limit old new totals sum span many → many ≡ 0 → (new ≡ old) × (sum ≡ totals)
+nothing_noted text joins limit old new totals sum span many done none = (rw (done.none none) at done.noted_is, rw (done.none none) at done.totals_is)
 
 -- no packets were accepted
 pub none_accepted : {S : Type 0} (takes : S → Item → S → Type 0) (limit : ℕ) (s t : S) (span : Span) → t ≡ s → IsAccepted takes limit s t span 0
@@ -255,7 +261,7 @@ module _ {A K M : Type 0} (grows : K → K → List A → Type 0) (grows-nil : (
       ))
       (cases_lt (length prefix) (length own))
 
-  module _ (s t : OutputState K M) {limit : ℕ} {span : Span} {many : ℕ} (some : 0 < many) (done : HasNoted (text s.fixture.texts) limit s.entries t.entries s.totals t.totals span many)
+  module _ (s t : OutputState K M) {joins : Item → Bool} {limit : ℕ} {span : Span} {many : ℕ} (some : 0 < many) (done : HasNoted (text s.fixture.texts) joins limit s.entries t.entries s.totals t.totals span many)
       (same : t.fixture ≡ s.fixture) (report : t.view.report ≡ s.view.report) where
     long : length (octets_of done.packets) ≡ many
     long = first-length limit span done.packets many done.first

@@ -35,6 +35,11 @@ tabled form fields application (Packet seen channel first place octets) =
     if (packet_header_of octets).application == application then row_or_none (row_from form fields (lead_of seen channel octets) octets) else []
 tabled form fields application _ = []
 
+-- it is a packet of another application
+unfoldable pub is_of_other : ℕ → Item → Bool
+is_of_other application (Packet seen channel first place octets) = not ((packet_header_of octets).application == application)
+is_of_other application _ = false
+
 -- it has a row: it is of the application, and has all bits that the fields need
 unfoldable pub has_row : List Field → ℕ → Item → Bool
 has_row fields application (Packet seen channel first place octets) =

@@ -8,10 +8,10 @@ ghost use Rattle.tm_items.specs.Among.{is_packet_item};
 ghost use Rattle.tm_items.specs.Item.{Item};
 ghost use Rattle.tm_items.specs.Fronts.{octets_of, placed};
 ghost use Rattle.tm_devices.specs.Devices.{AppendsPrefix, CountsFailures, raised};
-ghost use Rattle.tm_output.specs.FieldRows.{tabled};
+ghost use Rattle.tm_output.specs.FieldRows.{is_of_other, tabled};
 ghost use Rattle.tm_output.specs.Packets.{HasHeader, item_with};
 ghost use Rattle.tm_output.specs.code.Outlets.{GivesNone, PutStopped, appends_split, binary_none, listed_none, octets_joined, octets_none, packet_none};
-ghost use Rattle.tm_output.specs.code.Quiet.{outs_of, span_items};
+ghost use Rattle.tm_output.specs.code.Quiet.{AreJoined, outs_of, span_items};
 ghost use Rattle.tm_output.specs.Outputs.{FixedDrain, PutsPart, Buffering, lines_buffering, octets_buffering};
 ghost use Rattle.tm_output.specs.Pieces.{HasLine, Texts, binary_packet, listed, no_remark, packet_lead, packet_octets};
 ghost use Rattle.tm_output.specs.Totals.{is_some_text};
@@ -101,6 +101,13 @@ pub trait Outlet {
     fn can_join(&self) -> bool
         ensures { result ≡ can_join };
 
+    /// A packet may be put at once with those beside it.
+    ghost joins: { Fixed → Item → Bool };
+
+    fn joins(&self, packet: &Packet<'_>) -> bool
+        requires { HasHeader packet.now }
+        ensures { result ≡ Self.joins (Self.fixed self.now) (item_with packet.now) };
+
     /// Writes at once what belongs here for the packets of a span, if the outlet joins them, and answers whether it did. If not, nothing
     /// changes.
     fn write_span(&mut self, span: Span<'_>) -> Result<bool, DeviceFailed>
@@ -108,12 +115,14 @@ pub trait Outlet {
         ensures joined { IfOk result (λ put. put ≡ Self.can_join) }
         ensures whole { IfOk result (λ put. put ≡ true
             → ((packets : List (List ℕ)) → octets_of packets ≡ span.entry.octets.now
+            → AreJoined (Self.joins (Self.fixed self.old)) (span_items span.entry packets)
             → Self.grows (Self.held self.old) (Self.held self.new)
             (outs_of (Self.text (Self.fixed self.old)) (span_items span.entry packets)))
             × (Self.failures self.new ≡ Self.failures self.old)) }
         ensures apart { IfOk result (λ put. put ≡ false → self.new ≡ self.old) }
         ensures stopped { OnErr result ((Self.failures self.new ≡ raised (Self.failures self.old))
             × ((packets : List (List ℕ)) → octets_of packets ≡ span.entry.octets.now
+            → AreJoined (Self.joins (Self.fixed self.old)) (span_items span.entry packets)
             → PutsPart Self.grows (Self.held self.old) (Self.held self.new)
             (outs_of (Self.text (Self.fixed self.old)) (span_items span.entry packets)))) };
 
@@ -292,6 +301,8 @@ impl<W: Drain, T: PacketText> Outlet for PacketTexts<'_, W, T> {
 
     ghost can_join = { T.can_join };
 
+    ghost joins = { λ _ _. T.can_join };
+
     ghost text_none = { λ _ x has. (T.text_none x has, refl, packet_none x has) };
 
     ghost grows_nil = { Appends-nil };
@@ -325,6 +336,10 @@ impl<W: Drain, T: PacketText> Outlet for PacketTexts<'_, W, T> {
     }
 
     fn can_join(&self) -> bool {
+        self.text.can_join()
+    }
+
+    fn joins(&self, _packet: &Packet<'_>) -> bool {
         self.text.can_join()
     }
 
@@ -404,7 +419,13 @@ impl<H: Shelf> Outlet for PacketShelf<'_, H> {
 
     ghost can_join = { false };
 
+    ghost joins = { λ _ _. false };
+
     fn can_join(&self) -> bool {
+        false
+    }
+
+    fn joins(&self, _packet: &Packet<'_>) -> bool {
         false
     }
 
@@ -561,13 +582,21 @@ impl<W: Drain> Outlet for PacketRows<'_, '_, '_, W> {
         self.out.flush()
     }
 
-    ghost can_join = { false };
+    // Packets of other applications have no row, so they are put by writing nothing.
+    ghost can_join = { true };
+
+    ghost joins = { λ f. is_of_other f.application };
 
     fn can_join(&self) -> bool {
-        false
+        true
+    }
+
+    #[tactic(auto, unfolding(crate::specs::FieldRows::is_of_other))]
+    fn joins(&self, packet: &Packet<'_>) -> bool {
+        packet.header.application() != self.application
     }
 
     fn write_span(&mut self, _span: Span<'_>) -> Result<bool, DeviceFailed> {
-        Ok(false)
+        Ok(true)
     }
 }

@@ -217,7 +217,8 @@ fn note_if_quiet<O: Outlet>(tracker: &mut Tracker, outlet: &O, packet: &Packet<'
     tracker.add_without_notes(packet.channel, packet.header)
 }
 
-// Takes note of the first packets of a span that add nothing to the report, counts them, and answers how many octets they have.
+// Takes note of the first packets of a span that the outlet joins and that add nothing to the report, and counts them. Answers how many
+// octets they have, and whether no packet lies whole after them.
 #[inline(always)]
 fn note_quiet<O: Outlet>(
     tracker: &mut Tracker,
@@ -225,18 +226,23 @@ fn note_quiet<O: Outlet>(
     outlet: &O,
     limit: usize,
     span: Span<'_>,
-) -> usize
+) -> (usize, bool)
     requires channel { span.channel < 8 }
     requires places { span.place + length span.octets.now < 2 ^ 16 }
-    ensures { HasNoted (O.text (O.fixed outlet.now)) limit tracker.old tracker.new totals.old totals.new span.entry result }
+    ensures noted { HasNoted (O.text (O.fixed outlet.now)) (O.joins (O.fixed outlet.now)) limit
+        tracker.old tracker.new totals.old totals.new span.entry result.0 }
+    ensures ended { result.1 ≡ true → front_packets limit (drop result.0 span.entry.octets.now) ≡ [] }
 {
     let mut at = 0;
     loop {
         let Some(packet) = first_packet(limit, span_from(span, at)) else {
-            return at;
+            return (at, true);
         };
+        if !outlet.joins(&packet) {
+            return (at, false);
+        }
         if !note_if_quiet(tracker, outlet, &packet) {
-            return at;
+            return (at, false);
         }
         totals.add_quiet(outlet.gives(&packet));
         at += packet.octets.len();
@@ -290,30 +296,32 @@ impl<O: Outlet, V: Drain> Output<'_, O, V> {
         Ok(())
     }
 
-    // Takes the first packets of a span that add nothing to the report, if the outlet can join them. Answers how many octets they have.
+    // Takes the first packets of a span that add nothing to the report, if the outlet can join them. Answers how many octets they have,
+    // and whether no packet lies whole after them.
     #[inline(always)]
-    fn write_quiet(&mut self, limit: usize, span: Span<'_>) -> Result<usize, RunFault>
+    fn write_quiet(&mut self, limit: usize, span: Span<'_>) -> Result<(usize, bool), RunFault>
         requires channel { span.channel < 8 }
         requires places { span.place + length span.octets.now < 2 ^ 16 }
-        ensures accepted { IfOk result (IsAccepted (Takes O.grows O.text O.buffering) limit
-            (output_state O.Outlet V.Drain self.old) (output_state O.Outlet V.Drain self.new) span.entry) }
+        ensures accepted { IfOk result (λ taken. IsAccepted (Takes O.grows O.text O.buffering) limit
+            (output_state O.Outlet V.Drain self.old) (output_state O.Outlet V.Drain self.new) span.entry taken.0) }
+        ensures ended { IfOk result (λ taken. taken.1 ≡ true → front_packets limit (drop taken.0 span.entry.octets.now) ≡ []) }
         ensures refused { IfErr result (λ fault. RefusesOne (Takes O.grows O.text O.buffering)
             (Refuses O.grows O.text O.buffering) (output_state O.Outlet V.Drain self.old)
             (front_items limit span.entry) fault (output_state O.Outlet V.Drain self.new)) }
     {
         if !self.outlet.can_join() {
-            return Ok(0);
+            return Ok((0, false));
         }
-        let quiet = note_quiet(self.tracker, &mut self.totals, self.outlet, limit, span);
+        let (quiet, ended) = note_quiet(self.tracker, &mut self.totals, self.outlet, limit, span);
         if quiet == 0 {
-            return Ok(0);
+            return Ok((0, ended));
         }
         let front = Span {
             octets: &span.octets[..quiet],
             ..span
         };
         match self.outlet.write_span(front) {
-            Ok(true) => Ok(quiet),
+            Ok(true) => Ok((quiet, ended)),
             Ok(false) => unreachable!(),
             Err(_) => Err(RunFault::Write),
         }
@@ -470,7 +478,12 @@ impl<O: Outlet, V: Drain> Sink for Output<'_, O, V> {
         let mut at = 0;
         loop {
             match self.write_quiet(limit, span_from(span, at)) {
-                Ok(many) => at += many,
+                Ok((many, ended)) => {
+                    at += many;
+                    if ended {
+                        return Ok(at);
+                    }
+                }
                 Err(fault) => return Err(fault),
             }
             match self.write_first(limit, span_from(span, at)) {

@@ -1,5 +1,5 @@
 -- Packets at the front of a span, and those that add nothing to the report.
-use Rattle.std.specs.Prelude.{◌≡◌, ◌<◌, ◌≤◌, ℕ, List, [], ◌∷◌, ◌++◌, length, take, drop}
+use Rattle.std.specs.Prelude.{◌≡◌, ◌<◌, ◌≤◌, ℕ, Bool, true, List, [], ◌∷◌, ◌++◌, length, take, drop}
 use Rattle.std.specs.List.{flat_map}
 use Rattle.tm_items.specs.declared.sink.Span.{Span}
 use Rattle.tm_items.specs.Item.{Item, Packet}
@@ -25,6 +25,11 @@ abbrev pub AreQuiet : {A : Type 0} → Texts A → Entries → List Item → Typ
 AreQuiet text entries [] = Unit {0}
 AreQuiet text entries (x ∷ xs) = IsQuiet text entries x × AreQuiet text (noted entries x) xs
 
+-- each of these may be put at once with those beside it
+abbrev pub AreJoined : (Item → Bool) → List Item → Type 0
+AreJoined joins [] = Unit {0}
+AreJoined joins (x ∷ xs) = (joins x ≡ true) × AreJoined joins xs
+
 -- packets of a span, as items
 abbrev pub span_items : Span → List (List ℕ) → List Item
 span_items s packets = placed s.seen s.channel s.place packets
@@ -35,14 +40,15 @@ pub record AreFirst (limit : ℕ) (s : Span) (packets : List (List ℕ)) (many :
   pub octets : octets_of packets ≡ take many s.octets.now
   pub front : front_packets limit s.octets.now ≡ packets ++ front_packets limit (drop many s.octets.now)
 
--- so many octets of a span were noted and counted: first packets that add nothing to the report
-pub record HasNoted {A : Type 0} (text : Texts A) (limit : ℕ) (old new : Entries) (totals_old totals_new : Totals) (s : Span) (many : ℕ) : Type 0 where
+-- so many octets of a span were noted and counted: first packets that are joined and add nothing to the report
+pub record HasNoted {A : Type 0} (text : Texts A) (joins : Item → Bool) (limit : ℕ) (old new : Entries) (totals_old totals_new : Totals) (s : Span) (many : ℕ) : Type 0 where
   pub packets : List (List ℕ)
   pub first : AreFirst limit s packets many
   pub none : many ≡ 0 → packets ≡ []
   pub noted_is : new ≡ noted_all old (span_items s packets)
   pub totals_is : totals_new ≡ totals_with_items text old totals_old (span_items s packets)
   pub quiet : AreQuiet text old (span_items s packets)
+  pub joined : AreJoined joins (span_items s packets)
 
 -- the packet is the first of a span
 pub record IsFirstPacket (limit : ℕ) (s : Span) (packet : lent.Packet) : Type 0 where

@@ -366,7 +366,8 @@ impl<'a, R: Files + AllocGlobal> HeldFiles<'a, R> {
         if application >= APPLICATIONS {
             return Err(ShelfFault::NotWritten);
         }
-        if let Some(fault) = self.unwritten.take() {
+        if let Some(fault) = self.unwritten {
+            self.unwritten = None;
             return Err(fault);
         }
         self.begin_and_add(application, octets)?;

@@ -18,6 +18,12 @@
 extern "C" {
 #endif
 
+/* The version: 10,000 times the major number, 100 times the minor one and the patch, so 100 for 0.1.0. */
+#define TMX_VERSION_NUMBER 100
+
+/* That of the library which is linked. */
+uint32_t tmx_version(void);
+
 /* What is wanted. */
 enum tmx_command {
     TMX_EXTRACT = 0,        /* the packets' octets, as `tmx extract` writes them */
@@ -43,6 +49,9 @@ enum tmx_status {
     TMX_WHOLE = 9,       /* the summary was asked of a part: it takes the whole recording in one call */
     TMX_LONG = 10        /* the settings, the definition or the checkpoint has over TMX_INPUT_MOST octets: fault is an enum tmx_input */
 };
+
+/* What a status says, in a few words of English; never NULL. */
+const char *tmx_status_text(uint32_t status);
 
 /* What is read beside the recording, in the order of reading. */
 enum tmx_input {
@@ -110,7 +119,7 @@ enum tmx_column {
 /* The most octets that a checkpoint can have. */
 enum { TMX_CHECKPOINT_MOST = 622710 };
 
-/* Octets that are read: where the first one stands, and how many there are. `at` is never NULL, not even where `length` is 0. */
+/* Octets that are read: where the first one stands, and how many there are. Where `length` is 0, `at` may be NULL, or anything else. */
 struct tmx_octets {
     const uint8_t *at;
     size_t length;
@@ -121,7 +130,7 @@ struct tmx_request {
     struct tmx_octets settings;   /* a text of settings (docs/FORMATS.md) */
     struct tmx_octets checkpoint; /* the one that the call before wrote; of length 0 for the first call of a recording */
     struct tmx_octets octets;     /* the octets of the recording behind those that earlier calls used */
-    struct tmx_octets definition; /* for rows a text that defines the fields (docs/FORMATS.md); not read else, and never NULL */
+    struct tmx_octets definition; /* for rows a text that defines the fields (docs/FORMATS.md); not read else */
     uint32_t command;             /* an enum tmx_command */
     uint32_t application;         /* for rows the application, 0 to 2047; not read else */
     uint32_t last;                /* other than 0 where the recording ends behind these octets */
@@ -155,8 +164,8 @@ struct tmx_answer {
    many octets as the answer says; behind them it is as it was or holds anything. A room that is too small may hold anything. Then give a larger
    one, and make the same call again: the request still stands, and what the call gave must not be used.
 
-   No pointer is NULL, not even where its length is 0: an empty room is any address and 0. No two rooms overlap, and none overlaps what is read or
-   the answer. So the new checkpoint goes into another room than the old one. */
+   A room of length 0 may be NULL, or any other address. No two rooms overlap, and none overlaps what is read or the answer. So the new checkpoint
+   goes into another room than the old one. */
 uint32_t tmx_run(const struct tmx_request *request, uint8_t *out, size_t out_room, uint8_t *report, size_t report_room, uint8_t *checkpoint,
                  size_t checkpoint_room, struct tmx_answer *answer);
 

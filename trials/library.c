@@ -4,6 +4,7 @@
    library hostile 0 SETTINGS RECORDING      checkpoints with bits changed and cut after octets, rooms one octet too small, settings cut after
                                              each octet, texts one octet too long, two wrong ones at once, numbers that stand for nothing
    library many TIMES SETTINGS RECORDING     so often two calls over a chunk of one octet: no memory may stay behind
+   library names 0 SETTINGS RECORDING        what the header promises of versions, texts of statuses, and NULL with a length of 0
    library stack OCTETS SETTINGS RECORDING   how much of a stack of so many octets the calls take, each command with a definition of 1000 rows and
                                              the longest checkpoint
    library speed SIZE SETTINGS RECORDING     how long a call takes by `extract`, in chunks of so many octets: the least of 20 rounds
@@ -266,6 +267,36 @@ static int many(struct octets settings, struct octets recording, long calls) {
     return 0;
 }
 
+/* What a call tells that has NULL wherever nothing is read or written, and what it tells with addresses there. */
+static void without_octets(const char *what, struct tmx_octets settings, uint32_t command, uint32_t last) {
+    static uint8_t place[4];
+    const struct tmx_octets at_place = {place, 0}, null = {NULL, 0};
+    struct tmx_request request = {settings, at_place, at_place, at_place, command, 0, last};
+    struct tmx_answer told[2];
+    memset(told, 0, sizeof told);
+    tmx_run(&request, place, 0, place + 1, 0, place + 2, 0, &told[0]);
+    request.checkpoint = request.octets = request.definition = null;
+    if (settings.length == 0) request.settings = null;
+    tmx_run(&request, NULL, 0, NULL, 0, NULL, 0, &told[1]);
+    if (memcmp(&told[0], &told[1], sizeof told[0]) != 0) printf("%s %u: status %u with NULL, not %u\n", what, command, told[1].status, told[0].status);
+}
+
+static int names(struct octets settings) {
+    if (tmx_version() != TMX_VERSION_NUMBER) printf("the library is of version %u\n", tmx_version());
+    for (uint32_t status = 0; status <= TMX_LONG + 1; status++) {
+        const char *text = tmx_status_text(status);
+        if (text == NULL || *text == 0 || (status != 0 && strcmp(text, tmx_status_text(status - 1)) == 0)) printf("status %u has no text of its own\n", status);
+    }
+    if (strcmp(tmx_status_text(UINT32_MAX), tmx_status_text(TMX_LONG + 1)) != 0) puts("the greatest number is a status");
+    for (uint32_t command = TMX_EXTRACT; command <= TMX_BINARY_FIELDS + 1; command++) {
+        for (uint32_t last = 0; last < 2; last++) {
+            without_octets("command", lent(settings), command, last);
+            without_octets("no settings, command", (struct tmx_octets){NULL, 0}, command, last);
+        }
+    }
+    return 0;
+}
+
 /* 1000 rows of long names. */
 static struct octets most_rows(void) {
     struct octets it = some(1 << 20);
@@ -385,6 +416,7 @@ int main(int argc, char **argv) {
     if (strcmp(argv[1], "chunks") == 0) status = chunks(settings, recording, (size_t)atol(argv[2]));
     if (strcmp(argv[1], "hostile") == 0) status = hostile(settings, recording);
     if (strcmp(argv[1], "many") == 0) status = many(settings, recording, atol(argv[2]));
+    if (strcmp(argv[1], "names") == 0) status = names(settings);
     if (strcmp(argv[1], "stack") == 0) status = stack(settings, recording, (size_t)atol(argv[2]));
     if (strcmp(argv[1], "rows") == 0) status = rows(settings, atol(argv[2]));
     if (strcmp(argv[1], "speed") == 0) status = speed(settings, recording, (size_t)atol(argv[2]));

@@ -200,10 +200,10 @@ by_destdir() {
 
 # The library goes along where it was made, and alone where the program wasn't.
 with_library() {
-    local files=(include/tmx.h lib/libtmx.a lib/libtmx.so lib/pkgconfig/tmx.pc)
+    local files=(include/tmx.h lib/libtmx.a lib/libtmx.so lib/libtmx.so.0 lib/pkgconfig/tmx.pc)
     mkdir tree/out
     echo archive >tree/out/libtmx.a
-    echo shared >tree/out/libtmx.so
+    echo shared | tee tree/out/libtmx.so >tree/out/libtmx.so.0
     mv tree/crates/tmx/out/tmx built
     gives "install of the library alone" 0 "" "tree/install --prefix l"
     tell "install of the library alone: it is there, and nothing of the program" \

@@ -43,6 +43,18 @@ told() {
     [ $status = 0 ] || echo "status $status"
 }
 
+# What the libraries hand out: what the header declares, and nothing else. A program asks for libtmx.so by a name with its number.
+library_names() {
+    sed -nE 's/^[a-z].*[ *](tmx_[a-z_]+)\(.*/\1/p' "$here/../include/tmx.h" | sort >declared
+    tell "the archive has the names of the header" "$(nm -g --defined-only library/libtmx.a | sed -n 's/.* T //p' | sort | diff declared - 2>&1)"
+    tell "the shared library has the names of the header" "$(nm -D --defined-only library/libtmx.so | sed -n 's/.* T //p' | sort | diff declared - 2>&1)"
+    tell "libtmx.so is libtmx.so.0" "$(cmp library/libtmx.so library/libtmx.so.0 2>&1
+        readelf -d library/libtmx.so | grep -q 'SONAME.*\[libtmx\.so\.0\]' || echo "no libtmx.so.0")"
+    tell "the header and tmx.pc have the program's version" "$("$tmx" --version | sed -n '1s/^tmx //p' >version
+        sed -n 's/^Version: //p' "$here/../library/tmx.pc" | diff version -
+        sed -n 's/^#define TMX_VERSION_NUMBER //p' "$here/../include/tmx.h" | diff <(awk -F. '{ print 10000 * $1 + 100 * $2 + $3 }' version) -)"
+}
+
 # What C and Rust give, linked with the archive and with the shared library.
 library_examples() {
     local flags=(-std=c11 -Wall -Wextra -pedantic -Werror -O1 -I "$here/../include")
@@ -77,11 +89,12 @@ library_calls() {
     local flags=(-std=gnu11 -g -O1 -pthread -I "$here/../include") seen=(-fsanitize=address,undefined -fno-sanitize-recover=all) size
     gcc "${flags[@]}" -o calls "$here/library.c" library/libtmx.a 2>made || cat made
     if [ -e calls ] && ! gcc "${flags[@]}" "${seen[@]}" -o calls_seen "$here/library.c" library/libtmx.a 2>made; then
-        skip 3 "calls over memory that is just as large as it is said to be" "no AddressSanitizer"
+        skip 4 "calls over memory that is just as large as it is said to be" "no AddressSanitizer"
     else
         for size in 1115 100000; do
             tell "rooms of just enough octets, in chunks of $size" "$(differs ./calls_seen chunks $size)"
         done
+        tell "versions, texts of statuses, and NULL with a length of 0" "$(told ./calls_seen names 0 "$s" "$rec")"
         tell "hostile calls" "$(./calls_seen hostile 0 "$s" "$rec" 2>&1 | head -c 1000)"
     fi
     printf 'spacecraft = 42\nframe_length = 24\nerror_control = false\nmax_packet = 7\n' >small.toml
@@ -111,12 +124,12 @@ library() {
     # guards: what-is-read-before-the-recording-is-checked-in-the-programs-order
     # guards: a-call-gives-exactly-what-its-chunk-gives
     # guards: tmx_run-answers-in-numbers-what-the-call-gave
-    plan 24
+    plan 29
     names
     if [ -n "${LIBRARY:-}" ]; then
         cp -r "$LIBRARY" library
     elif ! command -v rt >/dev/null; then
-        skip 24 "the library" "no rt"
+        skip 29 "the library" "no rt"
         return
     elif ! make_library; then
         no "the library is made: $(tail -n 3 made)"
@@ -124,11 +137,12 @@ library() {
     fi
     [ -z "${KEEP_LIBRARY:-}" ] || cp -r library "$KEEP_LIBRARY"
     if command -v gcc >/dev/null; then
+        library_names
         library_examples
         library_calls
         library_stack
     else
-        skip 22 "the library from C and Rust" "no gcc"
+        skip 27 "the library from C and Rust" "no gcc"
     fi
     part library.py python3 "$here/library.py" "$tmx" "$PWD/library/libtmx.so" "${CHUNKED:-40}"
     part test_engine env "TMX=$tmx" "TMX_LIBRARY=$PWD/library/libtmx.so" python3 "$here/../python/tests/run.py" test_engine

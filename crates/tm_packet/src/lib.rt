@@ -2,6 +2,7 @@
 //! tell. That is gaps, and groups that are whole, broken, or still open.
 #![tactic(auto)]
 
+mod entries;
 mod header;
 pub mod laws;
 mod notes;

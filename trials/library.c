@@ -1,6 +1,7 @@
 /* Calls of libtmx whose octets and rooms stand in memory of their own, just as large as they are said to be: a sanitizer sees what goes past them.
 
    library chunks SIZE SETTINGS RECORDING    `extract` in chunks of so many octets, each call first without room, and then with just enough
+   library job SIZE SETTINGS RECORDING       `extract` by library/job.h in chunks of so many octets, after calls that are refused
    library hostile 0 SETTINGS RECORDING      checkpoints with bits changed and cut after octets, rooms one octet too small, settings cut after
                                              each octet, texts one octet too long, two wrong ones at once, numbers that stand for nothing
    library many TIMES SETTINGS RECORDING     so often two calls over a chunk of one octet: no memory may stay behind
@@ -9,7 +10,7 @@
                                              the longest checkpoint
    library speed SIZE SETTINGS RECORDING     how long a call takes by `extract`, in chunks of so many octets: the least of 20 rounds
    library rows TIMES SETTINGS RECORDING     how long a call over no octets takes by `extract`, and by `fields` with 1000 rows: the least */
-#include "tmx.h"
+#include "job.h"
 #include <malloc.h>
 #include <pthread.h>
 #include <stdio.h>
@@ -121,6 +122,24 @@ static int chunks(struct octets settings, struct octets recording, size_t size) 
     }
     free(checkpoint.at);
     return at == recording.length ? 0 : 6;
+}
+
+static int by_job(struct octets settings, struct octets recording, size_t size) {
+    struct job job = {.request = {.settings = lent(settings), .command = TMX_EXTRACT}};
+    for (size_t at = 0, more = 1; more; at += size) {
+        size_t length = recording.length - at < size ? recording.length - at : size;
+        struct octets chunk = copy(recording.at + at, length);
+        more = length == size;
+        job.request.command = TMX_BINARY_FIELDS + 1;
+        if (at % 7 == 0 && job_feed(&job, chunk.at, length, !more) != TMX_COMMAND) return 5;
+        job.request.command = TMX_EXTRACT;
+        if (job_feed(&job, chunk.at, length, !more) != TMX_DONE) return 6;
+        free(chunk.at);
+        fwrite(job.out.at, 1, job.answer.out_length, stdout);
+        fwrite(job.report.at, 1, job.answer.report_length, stderr);
+    }
+    job_free(&job);
+    return 0;
 }
 
 /* The call has to be refused so, with nothing but the reason. */
@@ -414,6 +433,7 @@ int main(int argc, char **argv) {
     settings = file_octets(argv[3]);
     recording = file_octets(argv[4]);
     if (strcmp(argv[1], "chunks") == 0) status = chunks(settings, recording, (size_t)atol(argv[2]));
+    if (strcmp(argv[1], "job") == 0) status = by_job(settings, recording, (size_t)atol(argv[2]));
     if (strcmp(argv[1], "hostile") == 0) status = hostile(settings, recording);
     if (strcmp(argv[1], "many") == 0) status = many(settings, recording, atol(argv[2]));
     if (strcmp(argv[1], "names") == 0) status = names(settings);

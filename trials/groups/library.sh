@@ -64,9 +64,10 @@ library_examples() {
     else
         skip 1 "the header in C++17" "no g++"
     fi
-    sed -n '/^    do {$/,/^    } while/p' "$here/../library/extract.c" >loop || no "the loop of the example is cut out"
-    tell "the page has the loop of the program that is tried" \
-        "$(sed -n '/^```c$/,/^```$/p' "$here/../docs/LIBRARY.md" | sed '/^```/d' | diff - loop 2>&1 | head -n 3; [ -s loop ] || echo "no loop")"
+    tell "the page has the program that is tried" \
+        "$(sed -n '/^```c$/,/^```$/p' "$here/../docs/LIBRARY.md" | sed '/^```/d' | diff - <(tail -n +2 "$here/../library/packets.c") 2>&1 | head -n 3)"
+    gcc "${flags[@]}" -o packets_c "$here/../library/packets.c" library/libtmx.a 2>made || cat made
+    tell "the program of the page" "$(./packets_c "$s" "$rec" 2>&1 | diff - <(sed -E 's/.* (apid=[0-9]+) .* (octets=[0-9]+)$/\1 \2/' expected/packets) 2>&1 | head -n 3)"
     gcc "${flags[@]}" -o extract_c "$here/../library/extract.c" library/libtmx.a 2>made || cat made
     tell "the example in C, with the archive" "$(differs ./extract_c)"
     gcc "${flags[@]}" -o extract_so "$here/../library/extract.c" -L library -ltmx 2>made || cat made
@@ -86,13 +87,16 @@ library_examples() {
 
 # Calls over memory that is just as large as it is said to be, by a sanitizer.
 library_calls() {
-    local flags=(-std=gnu11 -g -O1 -pthread -I "$here/../include") seen=(-fsanitize=address,undefined -fno-sanitize-recover=all) size
+    local flags=(-std=gnu11 -g -O1 -pthread -I "$here/../include" -I "$here/../library") seen=(-fsanitize=address,undefined -fno-sanitize-recover=all) size
     gcc "${flags[@]}" -o calls "$here/library.c" library/libtmx.a 2>made || cat made
     if [ -e calls ] && ! gcc "${flags[@]}" "${seen[@]}" -o calls_seen "$here/library.c" library/libtmx.a 2>made; then
-        skip 4 "calls over memory that is just as large as it is said to be" "no AddressSanitizer"
+        skip 7 "calls over memory that is just as large as it is said to be" "no AddressSanitizer"
     else
         for size in 1115 100000; do
             tell "rooms of just enough octets, in chunks of $size" "$(differs ./calls_seen chunks $size)"
+        done
+        for size in 1 257 100000; do
+            tell "a job of job.h, in chunks of $size" "$(differs ./calls_seen job $size)"
         done
         tell "versions, texts of statuses, and NULL with a length of 0" "$(told ./calls_seen names 0 "$s" "$rec")"
         tell "hostile calls" "$(./calls_seen hostile 0 "$s" "$rec" 2>&1 | head -c 1000)"
@@ -124,12 +128,12 @@ library() {
     # guards: what-is-read-before-the-recording-is-checked-in-the-programs-order
     # guards: a-call-gives-exactly-what-its-chunk-gives
     # guards: tmx_run-answers-in-numbers-what-the-call-gave
-    plan 29
+    plan 33
     names
     if [ -n "${LIBRARY:-}" ]; then
         cp -r "$LIBRARY" library
     elif ! command -v rt >/dev/null; then
-        skip 29 "the library" "no rt"
+        skip 33 "the library" "no rt"
         return
     elif ! make_library; then
         no "the library is made: $(tail -n 3 made)"
@@ -142,7 +146,7 @@ library() {
         library_calls
         library_stack
     else
-        skip 27 "the library from C and Rust" "no gcc"
+        skip 31 "the library from C and Rust" "no gcc"
     fi
     part library.py python3 "$here/library.py" "$tmx" "$PWD/library/libtmx.so" "${CHUNKED:-40}"
     part test_engine env "TMX=$tmx" "TMX_LIBRARY=$PWD/library/libtmx.so" python3 "$here/../python/tests/run.py" test_engine

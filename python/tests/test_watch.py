@@ -20,10 +20,10 @@ from pathlib import Path
 from termios import TIOCSWINSZ
 from unittest import mock
 
-from support import PACKAGE, RECORDING, SETTINGS, TestCase, damaged, example, lines, needs, tmx
+from support import PACKAGE, RECORDING, SETTINGS, TestCase, damaged, example, lines, tmx
 
 from tmx import screen, watching
-from tmx.totals import Rate, Rates, Totals
+from tmx.totals import Heads, Rate, Rates, Totals
 from tmx.watching import Wanted, watch
 
 OCTETS = RECORDING.read_bytes()
@@ -136,9 +136,10 @@ class Counted(TestCase):
         self.compare(watcher.last.totals, example())
 
     def test_a_file_that_is_long(self) -> None:
-        octets = OCTETS * 40  # more than are read at once, and more than the pipes hold
+        octets = OCTETS * 100  # more than the pipes and the memory before them hold
         Path("recording").write_bytes(octets)
-        watcher = Watcher(then=lambda it: it.totals.records == 300 * 40)
+        self.program('[ "$1" = frames ] || sleep 0.3\nexec "$real" "$@"')  # they begin to read when others wait already
+        watcher = Watcher(then=lambda it: it.totals.records == 300 * 100)
         watch(Wanted("recording", SETTINGS, 0.001, out="out", report="report"), watcher)
         recording = tmx.Recording("recording", SETTINGS)
         self.compare(watcher.last.totals, recording)
@@ -147,20 +148,26 @@ class Counted(TestCase):
         self.assertEqual(Path("report").read_bytes(), Path("wanted.report").read_bytes())
 
     def test_a_line_that_is_none(self) -> None:
-        totals, known = Totals(), b"packet record=0 of=another form\n"
         with self.assertRaisesRegex(tmx.VersionError, "packer record=1"):
-            totals.add_frames(b"bad record=0 fault=crc\npacker record=1\n", 0.0)
-        with self.assertRaisesRegex(tmx.VersionError, "packer record=1"):
-            totals.add_packets(known + b"packer record=1\n", 0.0)
-        for line in (known, b"packet record=0 a b c d e f g h i\n"):
-            with self.assertRaisesRegex(tmx.VersionError, "packet record=0"):
-                totals.add_packets(line, 0.0)
+            Totals().add_frames(b"bad record=0 fault=crc\npacker record=1\n", 0.0)
 
-    @needs("numpy")
-    def test_without_numpy(self) -> None:
-        with mock.patch("tmx.totals.module", lambda name: None):
-            self.test_files_that_grow()
-            self.test_a_line_that_is_none()
+    def test_heads(self) -> None:
+        """In pieces of any length, of packets that differ in the header's other bits too."""
+        leads = ((3, 0x0805, 0xC001, 7), (0, 0x0005, 0x4002, 300), (3, 0x1005, 0x8003, 8), (3, 0x0806, 0xFFFF, 65542))
+        octets = b"".join(
+            struct.pack("<10xBxI", channel, length) + struct.pack(">HHH", first, sequence, length - 7) + b"\xff" * (length - 6)
+            for channel, first, sequence, length in leads
+        )
+        for piece in (1, 5, 22, 23, 1000, len(octets)):
+            heads, totals = Heads(), Totals()
+            for at in range(0, len(octets), piece):
+                heads.add(octets[at : at + piece])
+            totals.add_packets(heads, 1.0)
+            found = {key: (it.packets, it.count) for key, it in totals.applications.items()}
+            self.assertEqual(found, {(3, 5): (2, 3), (0, 5): (1, 2), (3, 6): (1, 16383)})
+        for wrong in (octets[:10] + b"\x08" + octets[11:], octets[:11] + b"\x01" + octets[12:]):
+            heads.add(wrong)
+            self.raises(tmx.DisagreementError, None, totals.add_packets, heads, 1.0)
 
 
 class Times(TestCase):

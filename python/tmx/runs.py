@@ -8,7 +8,7 @@ import subprocess
 import tempfile
 import time
 from collections import deque
-from collections.abc import Iterator, Sequence
+from collections.abc import Callable, Iterator, Sequence
 from contextlib import contextmanager, suppress
 from dataclasses import dataclass, replace
 from types import TracebackType
@@ -152,6 +152,7 @@ class Runs:
         self.runs: list[Run] = []
         self.kept: list[deque[bytes]] = [deque() for _ in commands]
         self.left: dict[int, memoryview] = {}  # of each run that takes input, what it hasn't yet taken of the block
+        self.write: Callable[[int, memoryview], int] = os.write
         self.selector = selectors.DefaultSelector()
         source.open()
         try:
@@ -231,7 +232,7 @@ class Runs:
         while not self.have_taken() or not self.left and not self.have_ended():
             self.pass_on()
 
-    def give(self, block: bytes) -> None:
+    def give(self, block: bytes | memoryview) -> None:
         """Has all runs that take input be fed this block, which `pass_on` does; one of no octets ends their inputs."""
         for number in list(self.left):
             if not block:
@@ -243,12 +244,14 @@ class Runs:
     def pass_on(self, seconds: float | None = None) -> None:
         """Waits until runs take or give something, for so many seconds at most, and writes and reads what it can.
 
-        What else the selector looks at, with None in place of a number, only ends the waiting.
+        What else the selector looks at is read by a function in place of a number.
         """
         for key, events in self.selector.select(seconds):
-            if events & selectors.EVENT_WRITE:
+            if callable(key.data):
+                key.data()
+            elif events & selectors.EVENT_WRITE:
                 self.write_to(key.data)
-            elif key.data is not None:
+            else:
                 self.read_from(key.data)
 
     def have_taken(self) -> bool:
@@ -272,7 +275,7 @@ class Runs:
         """Writes what the pipe takes of the block.  A program that has ended takes nothing: its status says why."""
         to = self.input_of(number)
         try:
-            written = os.write(to, self.left[number])
+            written = self.write(to, self.left[number])
         except BlockingIOError:
             return
         except BrokenPipeError:

@@ -1,24 +1,22 @@
-"""What came of a recording so far, in numbers: the lines that the program gives are counted in blocks, and rates by a clock."""
+"""What came of a recording so far, in numbers: what the program gives is counted in blocks, and rates by a clock."""
 
 import re
+import struct
 from collections import Counter, deque
 from dataclasses import dataclass, field
-from functools import partial
-from typing import Any
 
 from .lines import unknown_line
-from .values import module
+from .packets import other_lead
 
 SPAN = 10.0  # seconds of the rates that are shown
 SPACE = 0.2  # seconds between two times that are kept for them
 REPORTED = 5  # lines of the report that are shown
 
 BAD = re.compile(rb"bad record=[0-9]+ fault=(.*)\n|short record=[0-9]+ octets=(.*)\n")
-# A match goes to the end of its line, where the next one begins, and has no class but `[^ ]`: it is a third faster so.
-PACKET = re.compile(rb"packet record=[^ ]++ channel=(.) from=[^ ]++ at=[^ ]++ type=.. secondary=[^ ]++ apid=([^ ]++) .*+\n")
 LOST = re.compile(
     rb"^(?:mastergap|(gap|drop)) record=[0-9]+(?: channel=([0-7]))? .*?(?:missing|octets)=([0-9]+)", re.MULTILINE
 )
+HEAD = struct.Struct(">10xH4xHHH")  # of a packet's lead the channel and a zero; all of its header
 
 
 @dataclass
@@ -50,7 +48,6 @@ class Totals:
     applications  by channel and number
     reported      the last lines of the report, with the clock times at which they came; `lines` is how many came
     last_good     when the last good frame came
-    numpy         the package of this name, where it is there
     """
 
     chosen: frozenset[int] | None = None
@@ -63,7 +60,6 @@ class Totals:
     reported: deque[tuple[str, str]] = field(default_factory=lambda: deque(maxlen=REPORTED))
     lines: int = 0
     last_good: float | None = None
-    numpy: Any = field(default_factory=partial(module, "numpy"))
 
     @property
     def bad(self) -> int:
@@ -99,16 +95,17 @@ class Totals:
             else:
                 self.rest = int(rest)
 
-    def add_packets(self, lines: bytes, now: float) -> None:
-        """The same of `tmx packets`."""
-        found = counts_by_numpy(self.numpy, lines) if self.numpy else counts_by_lines(lines)
-        if found is None:
-            raise unknown_line(other_line(lines, (b"packet ",)))
-        for (channel, apid), packets in found.items():
-            application = self.applications.setdefault((channel, apid), ApplicationTotals())
-            application.packets += packets
-            application.count = last_count(lines, channel, apid)
-            application.came = now
+    def add_packets(self, heads: "Heads", now: float) -> None:
+        """Adds the packets that came, and forgets their heads.  Raises DisagreementError where one is of no packet."""
+        found, backwards = Counter(heads.found), heads.found[::-1]
+        for place, head in sorted((-backwards.index(it), it) for it in found):
+            if head & 0xF8FF0000:
+                raise other_lead(head.to_bytes(4))
+            application = self.applications.setdefault((head >> 24, head & 0x7FF), ApplicationTotals())
+            application.packets += found[head]
+            application.count, application.came = heads.sequences[place - 1] & 0x3FFF, now
+        heads.found.clear()
+        heads.sequences.clear()
 
     def add_report(self, lines: bytes, clock: str) -> None:
         """The same of a report, whose lines came at this clock time."""
@@ -126,47 +123,34 @@ class Totals:
         return self.channels.setdefault(number, ChannelTotals())
 
 
+class Heads:
+    """The heads of packets, out of what `tmx packets --binary` gives in pieces of any length.
+
+    found      of each packet the channel of its lead, a zero, and the first two octets of its header, as one number
+    sequences  the next two octets of its header
+    """
+
+    def __init__(self) -> None:
+        self.found: list[int] = []
+        self.sequences: list[int] = []
+        self.cut = b""  # the beginning of a packet that hasn't come as far as its header's end
+        self.ahead = 0  # how many octets come before the next packet
+
+    def add(self, piece: bytes) -> None:
+        octets, at = self.cut + piece, self.ahead
+        last, least, unpack = len(octets) - HEAD.size, HEAD.size + 1, HEAD.unpack_from
+        while at <= last:
+            channel, identification, sequence, length = unpack(octets, at)
+            self.found.append(channel << 16 | identification)
+            self.sequences.append(sequence)
+            at += least + length
+        self.cut, self.ahead = octets[at:], max(0, at - len(octets))
+
+
 def other_line(lines: bytes, words: tuple[bytes, ...]) -> str:
     """The first line that begins with none of these words; the first of all where each does."""
     found = lines.splitlines()
     return next((it for it in found if not it.startswith(words)), found[0]).decode(errors="replace")
-
-
-Packets = dict[tuple[int, int], int]  # how many there are of each channel and application
-
-
-def counts_by_lines(lines: bytes) -> Packets | None:
-    """The packets of whole packet lines.  None where a line is none."""
-    found = Counter(PACKET.findall(lines))
-    if found.total() != lines.count(b"\n"):
-        return None
-    return {(int(channel), int(apid)): packets for (channel, apid), packets in found.items()}
-
-
-def counts_by_numpy(numpy: Any, lines: bytes) -> Packets | None:
-    """The same in less than half of the time.  A line is known by its spaces, and by the signs before both numbers."""
-    octets = numpy.frombuffer(lines, numpy.uint8)
-    spaces = numpy.flatnonzero(octets == ord(" "))
-    if len(spaces) != 10 * numpy.count_nonzero(octets == ord("\n")):
-        return None
-    channel, apid, end = spaces[1::10] + len(" channel="), spaces[6::10] + len(" apid="), spaces[7::10]
-    if any((octets.take(it - 1, mode="clip") != ord("=")).any() for it in (channel, apid)):
-        return None
-    numbers = numpy.zeros(len(end), int)
-    for place in range(4):
-        digits = octets.take(apid + place, mode="clip") & 15
-        numbers = numpy.where(apid + place < end, 10 * numbers + digits, numbers)
-    packets = numpy.bincount(numbers + 2048 * (octets[channel] & 7).astype(int))
-    return {divmod(int(it), 2048): int(packets[it]) for it in packets.nonzero()[0]}
-
-
-def last_count(lines: bytes, channel: int, apid: int) -> int:
-    """The sequence count of an application's last packet.  The lines have one."""
-    end, of_channel = len(lines), b" channel=%d " % channel
-    while True:
-        end = lines.rindex(b" apid=%d " % apid, 0, end)
-        if of_channel in lines[lines.rfind(b"\n", 0, end) + 1 : end]:
-            return int(lines[lines.index(b" count=", end) + 7 :].partition(b" ")[0])
 
 
 Sample = tuple[float, int, int]  # a time, and how many records and octets had come by then

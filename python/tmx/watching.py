@@ -12,6 +12,7 @@ from collections import deque
 from collections.abc import Callable, Iterator
 from contextlib import ExitStack, closing, contextmanager, suppress
 from dataclasses import dataclass
+from mmap import mmap
 from types import FrameType, TracebackType
 from typing import IO, Any, Protocol, Self
 
@@ -19,16 +20,17 @@ from .checkpoints import Name
 from .errors import DisagreementError, Error, RunError
 from .lines import SUMMARY, read_lines
 from .notes import settings_of
-from .runs import Command, Runs, running, wide_pipe, widen
+from .runs import PIPE, Command, Runs, running, wide_pipe, widen
 from .source import Source, refuse_to_overwrite
 from .steps import record_length
 from .summary import Summary, summary_of
-from .totals import Rates, Totals
+from .totals import Heads, Rates, Totals
 
-BLOCK = 1 << 18  # octets that are read at once
+BLOCK = 1 << 20  # octets that are read at once
 PAUSE = 0.05  # seconds until it looks again whether something has come
 COUNTING = 0.25  # seconds until it counts again
-MUCH = 1 << 19  # octets of lines that are counted before
+MANY = 1 << 16  # packets that are counted before
+PIECE = 1 << 16  # octets of the report that are read at once
 FASTEST = 2.5e7  # octets a second that a pipe takes in spite of these pauses
 REST = 1 << 22  # octets that are still read when it is to end, if they are there by then
 
@@ -37,11 +39,35 @@ class ReplacedError(Error):
     """The file of a recording shrank, or another one has its name."""
 
 
+class Ring:
+    """Memory from which pipes get octets without a copy.  What a pipe may still hold, PIPE octets at most, isn't written over."""
+
+    def __init__(self) -> None:
+        self.file = os.memfd_create("tmx")
+        os.ftruncate(self.file, PIPE + 2 * BLOCK)
+        self.octets = memoryview(mmap(self.file, 0))
+        self.end = 0  # of the block that was read last
+
+    def read(self, descriptor: int) -> memoryview:
+        """What os.read does, with a block.  All pipes have to have the one before."""
+        begin = self.end if self.end + BLOCK <= len(self.octets) else 0
+        self.end = begin + os.readv(descriptor, [self.octets[begin : begin + BLOCK]])
+        return self.octets[begin : self.end]
+
+    def write(self, pipe: int, left: memoryview) -> int:
+        """What os.write does, with what is left of the block that was read last."""
+        return os.splice(self.file, pipe, len(left), offset_src=self.end - len(left), flags=os.SPLICE_F_NONBLOCK)  # type: ignore
+
+    def close(self) -> None:
+        os.close(self.file)
+
+
 class Coming:
     """The octets of a recording as they come: of a file that grows and may not be there yet, of a pipe, or of standard input."""
 
     def __init__(self, name: str) -> None:
         self.name = name
+        self.ring = Ring()
         self.descriptor: int | None = None
         self.grows = False
         self.octets = 0  # that were read
@@ -62,13 +88,13 @@ class Coming:
                 self.pause = min(PAUSE, widen(self.descriptor) / FASTEST)
         return True
 
-    def read(self) -> bytes | None:
+    def read(self) -> memoryview | None:
         """What is there now, a block of it at most; None at its end.  Raises OSError, and ReplacedError."""
         if not self.open() or not self.ready.poll(0):
-            return b""
+            return memoryview(b"")
         assert self.descriptor is not None
         try:
-            octets = os.read(self.descriptor, BLOCK)
+            octets = self.ring.read(self.descriptor)
         except OSError as error:
             raise OSError(error.errno, error.strerror, self.name) from None
         self.octets += len(octets)
@@ -90,6 +116,7 @@ class Coming:
             raise ReplacedError(f"{self.name} is another file than the one that was read: it was replaced")
 
     def close(self) -> None:
+        self.ring.close()
         if self.descriptor:
             os.close(self.descriptor)
 
@@ -126,24 +153,21 @@ class ReportPipe:
         self.output, self.input = wide_pipe()
         self.kept: deque[bytes] = deque()
         self.at_end = False
-        os.set_blocking(self.output, False)
 
     def begin(self, runs: Runs) -> None:
-        """To be called when the run has its end.  What comes ends the waiting of the runs."""
+        """To be called when the run has its end.  What comes is read while runs pass on what they have."""
         os.close(self.input)
         self.input = -1
         self.selector = runs.selector
-        self.selector.register(self.output, selectors.EVENT_READ)
+        self.selector.register(self.output, selectors.EVENT_READ, self.read)
 
     def read(self) -> None:
-        """Reads what is there now."""
-        with suppress(BlockingIOError):
-            while not self.at_end:
-                if octets := os.read(self.output, BLOCK):
-                    self.kept.append(octets)
-                else:
-                    self.at_end = True
-                    self.selector.unregister(self.output)
+        """Reads what is there, a piece of it at most."""
+        if octets := os.read(self.output, PIECE):
+            self.kept.append(octets)
+        else:
+            self.at_end = True
+            self.selector.unregister(self.output)
 
     def close(self) -> None:
         os.close(self.output)
@@ -160,7 +184,8 @@ class Pass:
     def __init__(self, coming: Coming, runs: Runs, reporting: ReportPipe, totals: Totals, report: IO[bytes] | None) -> None:
         """`report` is the file that the report goes to, if there is one."""
         self.coming, self.runs, self.reporting, self.totals, self.report = coming, runs, reporting, totals, report
-        self.frames, self.packets, self.reported = WholeLines(), WholeLines(), WholeLines()
+        self.frames, self.heads, self.reported = WholeLines(), Heads(), WholeLines()
+        runs.write = coming.ring.write
         self.rates = Rates()
         self.rates.add(time.monotonic(), 0, 0)
         self.next_read = self.next_count = 0.0
@@ -184,7 +209,7 @@ class Pass:
         if block is not None and len(block) < BLOCK:
             self.next_read = now + self.coming.pause
 
-    def read(self) -> bytes | None:
+    def read(self) -> memoryview | None:
         """The next octets; None at the end, also of a recording that can't be read on."""
         try:
             block = self.coming.read()
@@ -202,8 +227,10 @@ class Pass:
     def pass_on(self, seconds: float | None = None) -> None:
         """What Runs does by this name.  What they give is counted where it is much, and a little later where it is less."""
         self.runs.pass_on(seconds)
-        self.reporting.read()
-        if time.monotonic() >= self.next_count or sum(map(len, self.runs.kept[PACKETS])) >= MUCH:
+        packets = self.runs.kept[PACKETS]
+        while packets:
+            self.heads.add(packets.popleft())
+        if time.monotonic() >= self.next_count or len(self.heads.found) >= MANY:
             self.count()
 
     def count(self) -> None:
@@ -212,8 +239,7 @@ class Pass:
         self.next_count = now + COUNTING
         if lines := self.frames.add(self.runs.kept[FRAMES]):
             self.totals.add_frames(lines, now)
-        if lines := self.packets.add(self.runs.kept[PACKETS]):
-            self.totals.add_packets(lines, now)
+        self.totals.add_packets(self.heads, now)
         if lines := self.reported.add(self.reporting.kept):
             self.totals.add_report(lines, clock())
             if self.report is not None:
@@ -223,10 +249,10 @@ class Pass:
     def finish(self) -> Summary:
         """Reads what is there by now, closes the recording, and counts what the programs give then.  Its summary."""
         most = self.coming.octets + REST
-        while not self.at_end and self.coming.octets < most and (block := self.read()):
-            self.wait_until_taken()
-            self.runs.give(block)
         self.wait_until_taken()
+        while not self.at_end and self.coming.octets < most and (block := self.read()):
+            self.runs.give(block)
+            self.wait_until_taken()
         self.runs.give(b"")
         while not (self.runs.have_ended() and self.reporting.at_end):
             self.pass_on()
@@ -354,7 +380,7 @@ def passing(wanted: Wanted) -> Iterator[Pass]:
 
 def commands(report: int, out: IO[bytes] | None) -> list[Command]:
     """The runs of a pass, in the order of their numbers.  The report goes to a pipe, packets to a file where there is one."""
-    packets = ["packets", "--report", f"/dev/fd/{report}"]
+    packets = ["packets", "--binary", "--report", f"/dev/fd/{report}"]
     found = [Command(["frames"], apart=True), Command(packets, apart=True, gets=[report]), Command(["summary"], apart=True)]
     if out is not None:
         found.append(Command(["extract", "--report", os.devnull], "end", out, apart=True))

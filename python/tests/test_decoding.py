@@ -13,6 +13,7 @@ from support import TestCase, needs, tmx
 from test_values import rows_of
 from tmx import values
 from tmx.leap_seconds import SYSTEM
+from tmx.time_codes import code_of
 
 PLACES = [f"tmx.{it}.module" for it in ("values", "fields", "times", "arrays", "decoding", "xtce")]
 # Rows of the table of the IERS, in seconds from 1900: TAI is 10, 19, 36 and 37 seconds ahead from 1972, 1980, July 2015 and 2017 on.
@@ -98,6 +99,8 @@ class Columns:
         ):
             table = column([code], "str", times=tmx.TimeCode(form, epoch))
             self.assertEqual(dates(table["A"]), [at.replace(microsecond=below)], form)
+        nanoseconds = code_of("cds11", b"").passed(day + noon + (123_456_789).to_bytes(4, "big"), 10**9)
+        self.assertEqual(nanoseconds, (15340 * 86400 + 43200) * 10**9 + 123_456)
         for seconds, raw in ((1, 946728000), ("0.001", 946728000_000), (2, 473364000)):
             table = column([raw.to_bytes(8, "big")], "uint", times=tmx.Ticks("UNIX", seconds))
             self.assertEqual(dates(table["A"]), [at])

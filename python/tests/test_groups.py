@@ -4,6 +4,7 @@ import importlib.util
 import io
 import os
 import re
+import struct
 import unittest
 
 from support import EXAMPLE, RECORDING, SETTINGS, TestCase, damaged, example, reference, tmx
@@ -103,6 +104,16 @@ class Groups(TestCase):
         (self.folder / "short.rec").write_bytes(RECORDING.read_bytes()[: 256 * 120])
         self.program('[ "$1" = packets ] || exec "$real" "$@"\n"$real" packets --binary --settings "$6" short.rec')
         self.raises(tmx.DisagreementError, None, lambda: list(recording.groups()))
+
+    def test_a_group_that_begins_elsewhere(self) -> None:
+        """The list has a second first segment where the report has one between."""
+        for name, flags in (("rec", 0), ("other.rec", 0x4000)):
+            packets = struct.pack(">HHHBHHHBHHHB", 9, 0x4005, 0, 1, 9, flags | 6, 0, 2, 9, 0x8007, 0, 3)
+            (self.folder / name).write_bytes((42 << 36).to_bytes(6, "big") + packets)
+        tmx.Settings(42, 27, False).write("settings.toml")
+        self.assertEqual([it.octets for it in tmx.Recording("rec", "settings.toml").groups()], [b"\1\2\3"])
+        self.program('[ "$1" = packets ] || exec "$real" "$@"\nexec "$real" packets --binary --settings settings.toml other.rec')
+        self.raises(tmx.DisagreementError, None, lambda: list(tmx.Recording("rec", "settings.toml").groups()))
 
     def test_a_program_that_is_killed(self) -> None:
         self.program('[ "$1" = packets ] || exec "$real" "$@"\n"$real" "$@" | head -c 20000\nkill -KILL $$')

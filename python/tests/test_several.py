@@ -46,8 +46,10 @@ class Several(TestCase):
             self.raises(tmx.FileError, "failed", recording.tables, {101: ATTITUDE, 100: "none.csv"})
             self.raises(ValueError, None, recording.tables, {101: ATTITUDE, 2048: HOUSEKEEPING})
         self.program('case "$*" in *"--apid 100"*) kill -KILL $$;; esac\nexec "$real" "$@"')
-        for recording in (example(), tmx.Recording(io.BytesIO(RECORDING.read_bytes() * 50), SETTINGS)):
+        stream = io.BytesIO(RECORDING.read_bytes() * 200)
+        for recording in (example(), tmx.Recording(stream, SETTINGS)):
             self.raises(tmx.KilledError, "SIGKILL", recording.tables, BOTH)
+        self.assertLess(stream.tell(), 100 * 76800)  # it isn't read to its end
 
     def test_streams_that_fail(self) -> None:
         class Failing(io.BytesIO):

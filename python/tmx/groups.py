@@ -85,7 +85,7 @@ class OpenGroups:
     def join(self, note: Group) -> JoinedGroup:
         """What the report calls whole.  Raises DisagreementError where the packets that came are others."""
         held = self.segments.pop((note.channel, note.apid), None)
-        if held is None or (held[0][0], held[-1][0]) != (note.first, note.last):
+        if held is None or held[0][0] != note.first:  # `until` looks at the last
             raise DisagreementError(f"the packets that came don't make the group of the report: {note}")
         octets = b"".join(data for _, data in held)
         return JoinedGroup(note.record, note.channel, note.apid, note.first, note.last, octets)

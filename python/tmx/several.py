@@ -26,7 +26,7 @@ def side_by_side(source: Source, reads: Sequence[Read]) -> list[Fields]:
                 widen(pipe)
                 given[number] = open(output, "rb")
                 written.append(pipe)
-                pipes.callback(close, written, pipe)
+                pipes.callback(os.close, pipe)
         found = [threads.submit(read_quietly, *it, warnings) for it in zip(reads, given)]
         if source.is_stream:
             feed(source, written)
@@ -46,27 +46,21 @@ def read_quietly(read: Read, given: IO[bytes] | None, warnings: list[str]) -> Fi
 
 
 def feed(source: Source, pipes: list[int]) -> None:
-    """Writes a stream to all pipes.  One that nobody reads any more is left out: its reader says why."""
+    """Writes a stream to all pipes, until nobody reads one of them any more: its reader says why."""
     source.open_stream()
     try:
         while block := source.read_block():
-            for pipe in list(pipes):
-                try:
-                    write_all(pipe, block)
-                except BrokenPipeError:
-                    close(pipes, pipe)
+            for pipe in pipes:
+                if not write_all(pipe, block):
+                    return
     finally:
         source.close()
 
 
-def write_all(pipe: int, octets: bytes) -> None:
+def write_all(pipe: int, octets: bytes) -> bool:
+    """Whether somebody reads them."""
     left = memoryview(octets)
-    while left:
-        left = left[os.write(pipe, left) :]
-
-
-def close(pipes: list[int], pipe: int) -> None:
-    """Closes a pipe that is still there."""
-    with suppress(ValueError):
-        pipes.remove(pipe)
-        os.close(pipe)
+    with suppress(BrokenPipeError):
+        while left:
+            left = left[os.write(pipe, left) :]
+    return not left

@@ -5,8 +5,9 @@ import struct
 import unittest
 from datetime import datetime
 from pathlib import Path
+from unittest import mock
 
-from support import RECORDING, SETTINGS, TestCase, example, tmx
+from support import RECORDING, SETTINGS, TestCase, example, needs, tmx
 
 from test_decoding import dates
 
@@ -46,6 +47,23 @@ class Skipped(TestCase):
             code = tmx.TimeCode("cds8")
             times = [it for block in table for it in dates(code.times("before", [octets[2:] for octets in block["before"]])[0])]
             self.assertEqual((len(times), times[0], times[8]), (300, NOON, NOON.replace(second=1, microsecond=8)))
+
+    @needs("numpy")
+    def test_arrays(self) -> None:
+        _, befores, afters = stamped()
+        for recording in self.recordings(tmx.Settings(42, LENGTH, True, 10, 3)):
+            for arrays in ([recording.skipped_array()], list(recording.skipped_array(blocks=7))):
+                self.assertEqual([it for array in arrays for it in array.tolist()], list(zip(befores, afters)))
+            times = recording.skipped_array()["before"].view([("marker", ">u2"), ("days", ">u2"), ("ms", ">u4"), ("below", ">u2")])
+            self.assertEqual((times["marker"][9], times["ms"][9], times["below"].tolist()), (0x1ACF, 43_201_125, list(range(300))))
+        for before, after, row in ((0, 0, (b"", b"")), (2, 0, (befores[0][:2], b""))):
+            settings = tmx.Settings(42, len(befores[0]) + LENGTH + 3 - before - after, False, before, after)
+            self.assertEqual(tmx.Recording("stamped.rec", settings).skipped_array()[:1].tolist(), [row])
+        self.assertEqual(len(tmx.Recording(io.BytesIO(b"short"), SETTINGS).skipped_array()), 0)
+
+    def test_arrays_without_numpy(self) -> None:
+        with mock.patch("tmx.recording.module", lambda name: None):
+            self.raises(ImportError, None, example().skipped_array)
 
     def test_nothing_passed_over(self) -> None:
         table = example().skipped()

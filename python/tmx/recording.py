@@ -39,12 +39,12 @@ from .rests import Rests
 from .runs import Command, running, single_lines, whole_lines
 from .settings import Settings
 from .several import Read, side_by_side
-from .skipped import skipped
+from .skipped import array_of, skipped, table_of
 from .source import Source, refuse_to_overwrite
 from .steps import Job, follow, reads_all, report_words, step_words
 from .summary import Summary, summary_of
 from .times import Epoch
-from .values import encoding_of
+from .values import encoding_of, module
 
 Item = Bad | MasterGap | Gap | Vca | Dropped | Short | SequenceGap | Broken | Group | Stray | ShortPacket
 
@@ -316,8 +316,19 @@ class Recording:
         Octets behind the last whole record are left out.  Raises SettingsError, OSError, and what reading a stream raises.
         """
         rows = None if blocks is None else number("blocks", blocks, RECORDS)
-        tables = skipped(self.source, self.settings, rows, progress)
+        tables = skipped(self.source, self.settings, rows, progress, table_of)
         return next(tables) if rows is None else tables
+
+    def skipped_array(self, *, blocks: Number | None = None, progress: Progress = False) -> Any:
+        """The same as an array of numpy with the columns `before` and `after`, which are octets; with `blocks` arrays one by one.
+
+        Raises ImportError where numpy isn't there.
+        """
+        if module("numpy") is None:
+            raise ImportError("numpy is not there: `skipped` gives a table")
+        rows = None if blocks is None else number("blocks", blocks, RECORDS)
+        arrays = skipped(self.source, self.settings, rows, progress, array_of)
+        return next(arrays) if rows is None else arrays
 
     def loss_map(self, title: str = "What was lost", *, progress: Progress = False) -> LossMap:
         """A picture of where, on which channel and why something was lost: one SVG, which a notebook shows.

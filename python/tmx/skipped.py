@@ -1,6 +1,8 @@
 """The octets of each record that the settings pass over, as a station writes them: times of receipt, markers, qualities."""
 
-from collections.abc import Iterator
+from collections.abc import Callable, Iterator
+from dataclasses import dataclass, field
+from typing import Any, TypeVar
 
 from .arrays import objects
 from .definition import Column, Name
@@ -12,19 +14,34 @@ from .steps import record_length
 from .values import module
 
 
-def skipped(source: Source, settings: Name | Settings, rows: int | None, progress: Progress) -> Iterator[Fields]:
-    """Tables of so many records; without a number one of all.  Only the first may have none."""
+Made = TypeVar("Made")
+
+
+def skipped(
+    source: Source, settings: Name | Settings, rows: int | None, progress: Progress, make: Callable[["Octets"], Made]
+) -> Iterator[Made]:
+    """What is made of the octets of so many records; without a number of all.  Only the first may have none."""
     length = record_length(settings)
     known = settings if isinstance(settings, Settings) else Settings.read(settings)
-    done, befores, afters = 0, list[bytes](), list[bytes]()
+    octets = Octets(known, 0)
     for record in records_of(source, length, progress):
-        befores.append(record[: known.skip_before])
-        afters.append(record[length - known.skip_after :])
-        if len(befores) == rows:
-            yield table_of(befores, afters, done, known)
-            done, befores, afters = done + rows, [], []
-    if befores or not done:
-        yield table_of(befores, afters, done, known)
+        octets.befores.append(record[: known.skip_before])
+        octets.afters.append(record[length - known.skip_after :])
+        if len(octets.befores) == rows:
+            yield make(octets)
+            octets = Octets(known, octets.first + rows)
+    if octets.befores or not octets.first:
+        yield make(octets)
+
+
+@dataclass
+class Octets:
+    """The octets before and after each of some frames, the first of which is that of this record."""
+
+    settings: Settings
+    first: int
+    befores: list[bytes] = field(default_factory=list)
+    afters: list[bytes] = field(default_factory=list)
 
 
 def records_of(source: Source, length: int, progress: Progress) -> Iterator[bytes]:
@@ -45,8 +62,20 @@ def records_of(source: Source, length: int, progress: Progress) -> Iterator[byte
         source.close()
 
 
-def table_of(befores: list[bytes], afters: list[bytes], first: int, settings: Settings) -> Fields:
-    numbers, numpy = range(first, first + len(befores)), module("numpy")
+def table_of(octets: Octets) -> Fields:
+    numbers, numpy = range(octets.first, octets.first + len(octets.befores)), module("numpy")
     records = list(numbers) if numpy is None else numpy.array(numbers, "u4")
-    columns = [("tm_record", "uint", 32), ("before", "str", 8 * settings.skip_before), ("after", "str", 8 * settings.skip_after)]
-    return Fields([Column(*it) for it in columns], [records, objects(befores), objects(afters)])
+    bits = 8 * octets.settings.skip_before, 8 * octets.settings.skip_after
+    columns = [Column("tm_record", "uint", 32), Column("before", "str", bits[0]), Column("after", "str", bits[1])]
+    return Fields(columns, [records, objects(octets.befores), objects(octets.afters)])
+
+
+def array_of(octets: Octets) -> Any:
+    """The same as a structured array of numpy, without the numbers of the records."""
+    numpy = module("numpy")
+    parts = ("before", octets.settings.skip_before, octets.befores), ("after", octets.settings.skip_after, octets.afters)
+    found = numpy.empty(len(octets.befores), [(name, f"V{length}") for name, length, _ in parts])
+    for name, length, values in parts:
+        if length:
+            found[name] = numpy.frombuffer(b"".join(values), f"V{length}")
+    return found

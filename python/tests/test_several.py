@@ -41,6 +41,19 @@ class Several(TestCase):
         self.assertTrue(same(example().tables(BOTH, **timed)[100], example().fields(HOUSEKEEPING, 100, **timed)))
         self.assertEqual(example().tables({}), {})
 
+    def test_what_one_application_has(self) -> None:
+        Path("spectra.csv").write_text("name,data_type,bit_length\nTIME,str,64\nCOUNT,uint,16\nBINS,str,1280\n")
+        wanted = example().fields("spectra.csv", 201, arrays={"BINS": ">u2"}, report="wanted.report")
+        stars = example().fields(ATTITUDE, 101, rest="BRIGHTNESS")
+        own = {"arrays": {201: {"BINS": ">u2"}}, "rest": {101: "BRIGHTNESS"}, "report": {201: "report"}}
+        for given in (RECORDING, io.BytesIO(RECORDING.read_bytes())):
+            tables = tmx.Recording(given, SETTINGS).tables({101: ATTITUDE, 201: "spectra.csv"}, **own)
+            self.assertEqual([list(it) for it in tables[201]["BINS"]], [list(it) for it in wanted["BINS"]])
+            self.assertTrue(same(tables[101], stars))
+            self.assertEqual(Path("report").read_bytes(), Path("wanted.report").read_bytes())
+        self.raises(ValueError, None, example().tables, BOTH, rest={102: "REST"})
+        self.raises(tmx.FileError, "failed", example().tables, BOTH, report={101: "report", 100: "./report"})
+
     def test_errors(self) -> None:
         for recording in (example(), tmx.Recording(io.BytesIO(RECORDING.read_bytes()), SETTINGS)):
             self.raises(tmx.FileError, "failed", recording.tables, {101: ATTITUDE, 100: "none.csv"})

@@ -4,6 +4,7 @@ import os
 import re
 from collections.abc import Iterator, Mapping, Sequence
 from contextlib import ExitStack
+from itertools import combinations
 from typing import IO, Any, overload
 
 from .arguments import APPLICATIONS, CHANNELS, RECORDS, Number, Numbers, number, numbers
@@ -280,14 +281,23 @@ class Recording:
         epoch: Epoch | None = None,
         encoding: str | None = None,
         errors: str = "strict",
+        arrays: Mapping[int, Mapping[str, Any]] | None = None,
+        rest: Mapping[int, str] | None = None,
+        report: Mapping[int, Name] | None = None,
         progress: Progress = False,
     ) -> dict[int, Fields]:
         """The fields of several applications, by their numbers: a table for each definition.  A stream is read once.
 
-        The other words are those of `fields`, for all tables.  Raises what `fields` does.
+        `arrays`, `rest` and `report` are those of `fields` by application, and the other words those of `fields`, for all tables.
+        Raises what `fields` does, and ValueError where an application has no definition.
         """
         wanted = {number("apid", apid, APPLICATIONS): definition for apid, definition in definitions.items()}
         how: dict[str, Any] = {"channel": channel, "time": time, "epoch": epoch, "encoding": encoding, "errors": errors}
+        single: dict[str, Mapping[int, Any]] = {"arrays": arrays or {}, "rest": rest or {}, "report": report or {}}
+        if others := {apid for it in single.values() for apid in it} - set(wanted):
+            raise ValueError(f"{numbered('application', others)} without a definition")
+        for one, other in combinations(single["report"].values(), 2):
+            refuse_to_overwrite(one, other)
 
         def reader(apid: int) -> Read:
             """Reads the table of an application.  The first one shows how far it is."""
@@ -295,7 +305,8 @@ class Recording:
 
             def read(given: IO[bytes] | None) -> Fields:
                 recording = self if given is None else Recording(given, self.settings)
-                table: Fields = recording.fields(wanted[apid], apid, progress=shown, **how)
+                own = {word: it[apid] for word, it in single.items() if apid in it}
+                table: Fields = recording.fields(wanted[apid], apid, progress=shown, **how, **own)
                 return table
 
             return read

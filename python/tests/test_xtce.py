@@ -219,16 +219,20 @@ REFUSED = (
     (one('<IntegerParameterType name="T" baseType="T"/>'), "/Sat/A: the type /Sat/T extends itself"),
     (one(BYTE, LOCATED.format("", 0).replace("<FixedValue>0</FixedValue>", DYNAMIC)), "/Sat/A: the place is not fixed"),
     (one(BYTE, LOCATED.format('referenceLocation="nextEntry"', 0)), "/Sat/A: a place from nextEntry is not read"),
+    (one(BYTE, LOCATED.format('referenceLocation="containerEnd"', 0)), "/Sat/A: a place from containerEnd is not read"),
     (one(BYTE, LOCATED.format("", -49)), "/Sat/A: it begins before the packet"),
     (one(BYTE, REPEATED.replace("<FixedValue>3</FixedValue>", DYNAMIC)), "/Sat/A: the number of repetitions is not fixed"),
     (one(BYTE, entries("A").replace("/>", "><IncludeCondition/></ParameterRefEntry>")), "/Sat/C: /Sat/A is there only on a condition"),
     (one(BYTE, "<IndirectParameterRefEntry/>"), "/Sat/C: IndirectParameterRefEntry is not read"),
+    (one(BYTE, "<ParameterSegmentRefEntry/>"), "/Sat/C: ParameterSegmentRefEntry is not read"),
     (one(BYTE, entries("A") * 2), "/Sat/C: the parameter /Sat/A stands in it twice"),
     (one(BYTE, entries("B")), "/Sat/C: there is no parameter 'B'"),
     (one("", entries("A")), "/Sat/A: there is no type 'T'"),
     (system("", "", container("C", "", base="D")), "/Sat/C: there is no container 'D'"),
     (system("", "", container("C", "", base="C")), "/Sat/C: it contains itself"),
     (system("", "", container("C", "", "<BooleanExpression/>")), "/Sat/C: BooleanExpression is not read"),
+    (system("", "", container("C", "", "<CustomAlgorithm/>")), "/Sat/C: CustomAlgorithm is not read"),
+    (system("", "", container("C", "", f"{OF_300}<NextContainer/>")), "/Sat/C: NextContainer is not read"),
     (system("", "", container("C", "", OF_300.replace("/>", ' instance="-1"/>'))), "/Sat/C: the instance -1 of APID is not read"),
     (
         system("", "", container("D", "") + container("C", '<ContainerRefEntry containerRef="D"/>')),
@@ -273,6 +277,7 @@ class System(TestCase):
             text = system(BYTE, '<Parameter name="A" parameterTypeRef="T"/>', container("C", "", criteria))
             with self.assertRaisesRegex(tmx.XtceError, f"^/Sat/C: .*{said}"):
                 table(text, b"ab")
+            self.assertRegex(written(text).refusals()["/Sat/C"], said)
         with self.assertRaisesRegex(tmx.XtceError, "^/Sat/PACKET: its packets have no application"):
             table(one(BYTE), b"ab", container="PACKET")
         self.assertEqual(plain(table(one(BYTE), b"ab", container="PACKET", apid=300)["LENGTH"]), [1])
@@ -294,17 +299,22 @@ class System(TestCase):
         self.assertEqual(written(text).containers, ["/Sat/PACKET", "/Sat/PART", "/Sat/MIDDLE", "/Sat/Low/LAST"])
 
     def test_comparisons(self) -> None:
-        boolean = '<BooleanParameterType name="B"><IntegerDataEncoding/></BooleanParameterType>'
+        spelled = 'oneStringValue="Yes" zeroStringValue="OFF"'
+        boolean = f'<BooleanParameterType name="B" {spelled}><IntegerDataEncoding/></BooleanParameterType>'
         curve = INTEGER.format(8, "", CALIBRATED.format(POLYNOMIAL)).replace('name="T"', 'name="P"')
         parameters = "".join(f'<Parameter name="{it}" parameterTypeRef="{it}"/>' for it in "TBP")
         payloads = [bytes(it) for it in ((1, 0, 2), (16, 1, 4), (31, 9, 2), (99, 0, 0))]
         for said, wanted in (
             ('T" value="SAFE"', [1, 2]),
             ('T" comparisonOperator="!=" value="ON"', [1, 2, 3]),
+            ('T" value="1"', None),
+            ('B" value="on"', None),
             ('T" useCalibratedValue="false" value="0x10"', [1]),
             ('T" useCalibratedValue="false" comparisonOperator="&gt;=" value="31"', [2, 3]),
             ('B" value="true"', [1, 2]),
             ('B" comparisonOperator="!=" value="True"', [0, 3]),
+            ('B" value="Yes"', [1, 2]),
+            ('B" value="OFF"', [0, 3]),
             ('P" value="-1"', [0, 2]),
             ('P" comparisonOperator="&lt;" value="-1.0"', [3]),
             ('P" useCalibratedValue="false" comparisonOperator="&lt;=" value="2"', [0, 2, 3]),
@@ -312,6 +322,9 @@ class System(TestCase):
         ):
             criteria = f'<ComparisonList>{OF_300}<Comparison parameterRef="{said}/></ComparisonList>'
             text = system(ENUMERATED + boolean + curve, parameters, container("C", entries(*"TBP"), criteria))
+            if wanted is None:
+                self.assertRegex(written(text).refusals()["/Sat/C"], "is not understood$")
+                continue
             self.assertEqual(plain(table(text, *payloads)["tm_record"]), wanted, said)
             blocks = written(text).blocks(recording_of(payloads), "C", 3)
             self.assertEqual([row for it in blocks for row in plain(it["tm_record"])], wanted, said)

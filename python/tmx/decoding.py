@@ -139,8 +139,10 @@ class Labels:
 
 @dataclass(frozen=True)
 class Truth:
-    """Whether a raw number is another one than 0."""
+    """Whether a raw number is another one than 0, and how comparisons spell both."""
 
+    zero: str = "false"
+    one: str = "true"
     type = "bool"
 
     def values(self, name: str, raw: Any) -> Any:

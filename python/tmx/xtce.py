@@ -110,7 +110,7 @@ class System:
         found = {}
         for path in self.containers:
             try:
-                self.columns(path)
+                self.asked(path)
             except XtceError as error:
                 found[path] = str(error)
         return found
@@ -286,8 +286,11 @@ def condition(field: Field, compared: Compared, path: str) -> Condition:
     decoder = field.decoder if compared.is_calibrated else None
     by_name = isinstance(decoder, (Labels, Truth, Text))
     value: Any = compared.value if isinstance(decoder, (Labels, Text)) else number_of(compared.value)
+    if isinstance(decoder, Labels) and value not in decoder.labels.values():
+        value = None
     if isinstance(decoder, Truth):
-        value = {"true": True, "1": True, "false": False, "0": False}.get(compared.value.lower())
+        said = {"0": False, "false": False, decoder.zero: False, "1": True, "true": True, decoder.one: True}
+        value = said.get(compared.value, said.get(compared.value.lower()))
     if value is None or by_name and compared.order not in ("==", "!=") or isinstance(decoder, Timed):
         raise XtceError(path, f"{field.name} {compared.order} {compared.value!r} is not understood")
     if decoder is None and field.type == "str":

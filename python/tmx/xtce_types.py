@@ -111,6 +111,9 @@ class Chain:
     def child(self, name: str) -> Element | None:
         return next((it for element in self.elements for it in children(element, name)), None)
 
+    def get(self, name: str, default: str) -> str:
+        return next((it for element in self.elements if (it := element.get(name)) is not None), default)
+
 
 def indices(dimension: Element, path: str) -> range:
     """The indices of a dimension, its ends included."""
@@ -183,7 +186,7 @@ def meaning(kind: str, chain: Chain, encoding: Element, path: str) -> Decoder | 
     if kind == "EnumeratedParameterType":
         return labels(chain.child("EnumerationList"), path)
     if kind == "BooleanParameterType":
-        return Truth()
+        return Truth(chain.get("zeroStringValue", "false"), chain.get("oneStringValue", "true"))
     if kind == "StringParameterType":
         return text(encoding, path)
     return Timed(ticks(chain, path)) if kind == "AbsoluteTimeParameterType" else None

@@ -215,6 +215,7 @@ REFUSED = (
     (one(TIME.format("", "<BinaryDataEncoding/>", "<Epoch>TAI</Epoch>")), "/Sat/A: BinaryDataEncoding of a AbsoluteTimeParameterType"),
     (one(U8 + ARRAY.format("", "")), "/Sat/A: an array has dimensions, and at most 1000 values"),
     (one(U8 + ARRAY.format("", DIMENSIONS.format(0, 99, 0, 99))), "/Sat/A: an array has dimensions, and at most 1000 values"),
+    (one(U8 + ARRAY.format("", DIMENSIONS.replace("<FixedValue>{}</FixedValue>", DYNAMIC))), "/Sat/A: the size of an array is not"),
     (one(ARRAY.format("", DIMENSIONS.format(0, 0, 0, 0)).replace("u8", "T")), "/Sat/A: the type /Sat/T contains itself"),
     (one('<IntegerParameterType name="T" baseType="T"/>'), "/Sat/A: the type /Sat/T extends itself"),
     (one(BYTE, LOCATED.format("", 0).replace("<FixedValue>0</FixedValue>", DYNAMIC)), "/Sat/A: the place is not fixed"),

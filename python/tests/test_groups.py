@@ -9,6 +9,8 @@ import unittest
 
 from support import EXAMPLE, RECORDING, SETTINGS, TestCase, damaged, example, reference, tmx
 
+from tmx.groups import OpenGroups
+
 RECORDINGS = int(os.environ.get("DAMAGED", "200"))
 SAID = re.compile(r"(?:group|broken|stray) record=(\d+) channel=(\d) apid=(\d+) (?:first=(\d+) last=(\d+)|count=(\d+))")
 
@@ -114,6 +116,26 @@ class Groups(TestCase):
         self.assertEqual([it.octets for it in tmx.Recording("rec", "settings.toml").groups()], [b"\1\2\3"])
         self.program('[ "$1" = packets ] || exec "$real" "$@"\nexec "$real" packets --binary --settings settings.toml other.rec')
         self.raises(tmx.DisagreementError, None, lambda: list(tmx.Recording("rec", "settings.toml").groups()))
+
+    def test_a_group_whose_end_is_not_listed(self) -> None:
+        """The report has the last segment of application 9 where the list has a packet of another one."""
+        for name, apid, flags in (("rec", 9, 0x8000), ("other.rec", 7, 0xC000)):
+            packets = struct.pack(">HHHBHHHBHHHBHHHB", 9, 0x4005, 0, 1, 8, 0x4005, 0, 2, apid, flags | 6, 0, 3, 8, 0x8006, 0, 4)
+            (self.folder / name).write_bytes((42 << 36).to_bytes(6, "big") + packets)
+        tmx.Settings(42, 34, False).write("settings.toml")
+        self.assertEqual([it.octets for it in tmx.Recording("rec", "settings.toml").groups()], [b"\1\3", b"\2\4"])
+        self.program('[ "$1" = packets ] || exec "$real" "$@"\nexec "$real" packets --binary --settings settings.toml other.rec')
+        self.raises(tmx.DisagreementError, None, lambda: list(tmx.Recording("rec", "settings.toml").groups()))
+
+    def test_what_is_held(self) -> None:
+        """Nothing behind a packet that ends a group before its last segment."""
+        packets = [struct.pack(">HHHB", 9, sequence, 0, 0) for sequence in (0x4005, 0xC006, 0x4007, 0x0009)]
+        held = OpenGroups(None, None, 0)
+        lengths = []
+        for octets, flags, count in zip(packets, ("first", "unsegmented", "first", "continuation"), (5, 6, 7, 9)):
+            held.take(tmx.Packet(0, 0, 0, 0, "tm", False, 9, flags, count, octets))
+            lengths.append(len(held.segments))
+        self.assertEqual(lengths, [1, 0, 1, 0])
 
     def test_a_program_that_is_killed(self) -> None:
         self.program('[ "$1" = packets ] || exec "$real" "$@"\n"$real" "$@" | head -c 20000\nkill -KILL $$')

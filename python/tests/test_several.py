@@ -79,6 +79,10 @@ class Several(TestCase):
                 warnings.simplefilter("always")
                 tmx.Recording(given, SETTINGS).tables({101: ATTITUDE, 7: HOUSEKEEPING})
             self.assertEqual([(str(it.message), it.filename) for it in found], [("no packet of application 7", __file__)])
+        with warnings.catch_warnings(record=True) as found:
+            warnings.simplefilter("always")
+            tmx.Recording(io.BytesIO(bytes(2560)), SETTINGS).tables(BOTH)
+        self.assertEqual(len(found), 1)
 
     def test_progress(self) -> None:
         for given in (RECORDING, io.BytesIO(RECORDING.read_bytes())):

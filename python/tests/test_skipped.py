@@ -40,6 +40,8 @@ class Skipped(TestCase):
                 self.assertEqual([it for table in tables for it in table["before"]], befores)
                 self.assertEqual([it for table in tables for it in table["after"]], afters)
             self.assertEqual([it.rows for it in recording.skipped(blocks=299)], [299, 1])
+        long = tmx.Recording(io.BytesIO(stamped()[0] * 3), tmx.Settings(42, LENGTH, True, 10, 3)).skipped()  # is read in parts
+        self.assertEqual((list(long["before"]), list(long["after"])), (befores * 3, afters * 3))
 
     def test_times_of_receipt(self) -> None:
         for recording in self.recordings(tmx.Settings(42, LENGTH, True, 10, 3)):

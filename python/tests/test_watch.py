@@ -13,11 +13,12 @@ import sys
 import threading
 import time
 import unittest
-from collections import Counter
+from collections import Counter, deque
 from contextlib import redirect_stderr
 from fcntl import ioctl
 from pathlib import Path
 from termios import TIOCSWINSZ
+from types import SimpleNamespace
 from unittest import mock
 
 from support import PACKAGE, RECORDING, SETTINGS, TestCase, damaged, example, lines, tmx
@@ -165,9 +166,30 @@ class Counted(TestCase):
             totals.add_packets(heads, 1.0)
             found = {key: (it.packets, it.count) for key, it in totals.applications.items()}
             self.assertEqual(found, {(3, 5): (2, 3), (0, 5): (1, 2), (3, 6): (1, 16383)})
+            self.assertEqual(heads.found + heads.sequences, [])
         for wrong in (octets[:10] + b"\x08" + octets[11:], octets[:11] + b"\x01" + octets[12:]):
             heads.add(wrong)
             self.raises(tmx.DisagreementError, None, totals.add_packets, heads, 1.0)
+
+
+    def test_much_is_counted_at_once(self) -> None:
+        """Few packets wait for their time."""
+        octets = subprocess.run([os.environ["TMX"], "packets", "--binary", "--settings", SETTINGS, RECORDING], capture_output=True)
+        for many, counted in ((848, 848), (849, 0)):
+            runs = SimpleNamespace(pass_on=lambda seconds: None, kept=[deque(), deque([octets.stdout]), deque()])
+            coming, reporting = SimpleNamespace(ring=mock.Mock(), octets=0), SimpleNamespace(kept=deque())
+            watched = watching.Pass(coming, runs, reporting, Totals(), None)
+            watched.next_count = time.monotonic() + DEADLINE
+            with mock.patch("tmx.watching.MANY", many):
+                watched.pass_on()
+            self.assertEqual(sum(it.packets for it in watched.totals.applications.values()), counted)
+
+    def test_lines_in_pieces(self) -> None:
+        text = "\n".join(lines(example().report())).encode() + b"\n"
+        for seed in range(20):
+            cut = watching.WholeLines()
+            found = [cut.add(deque([it])) for it in pieces(text, seed)]
+            self.assertEqual((b"".join(found), {it[-1:] for it in found if it}), (text, {b"\n"}))
 
 
 class Times(TestCase):
@@ -468,14 +490,16 @@ class Terminal(TestCase):
 
     def test_a_small_terminal(self) -> None:
         Path("rec").write_bytes(OCTETS)
-        for rows, columns, more in ((18, 60, "and 8 more"), (20, 60, "and 6 more"), (5, 20, None), (1, 1, None)):
+        sizes = ((18, 60, "and 8 more"), (20, 60, "and 6 more"), (24, 60, "and 2 more"), (5, 20, None), (1, 1, None))
+        for rows, columns, more in sizes:
             run, _ = self.started(rows, columns, "rec")
             with run, self.subTest(rows=rows):
                 run.until(rb"(?s)2J(.*\x1b\[H){5}")
                 run.process.send_signal(signal.SIGTERM)
                 run.ended()
             drawing = self.drawings(run.said.rpartition(b"\r\n\x1b[?25h")[0])[-1]
-            self.assertLessEqual((len(drawing), max(map(len, drawing))), (rows, columns))
+            self.assertLessEqual(len(drawing), rows)
+            self.assertLess(max(map(len, drawing)), columns)
             if more:
                 self.assertIn(more, drawing)
 

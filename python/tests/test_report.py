@@ -23,7 +23,7 @@ from support import ATTITUDE, EXAMPLE, PROGRAM, RECORDING, SETTINGS, TestCase, c
 import colours
 from tmx.damage import Span
 from tmx.loss_times import Receipt, TimeError, receipt_of
-from tmx.report import Asked, Findings, find
+from tmx.report import Asked, Findings, Losses, find
 from tmx.report_page import COLOURS, page
 from tmx.time_codes import Code, code_of_lead
 
@@ -244,6 +244,12 @@ class Numbers(ReportCase):
         plan = [(0, GOOD), (1, GOOD), *[(1, LOST)] * 100, (0, GOOD), *[(1, LOST)] * 156, (0, GOOD), (1, GOOD)]
         found, _ = self.find(made(plan))  # of channel 1 256 frames, of which the master channel alone tells
         self.assertEqual((found.frames.never_received, [it.counts.missing for it in found.channels]), (256, [0, 0]))
+
+    def test_doubtful_gaps(self) -> None:
+        losses = Losses()
+        for missing in (8191, 8192, 16383):
+            losses.look(tmx.SequenceGap(9, 1, 5, 0, missing, missing))
+        self.assertEqual(losses.doubtful, {(1, 5): 2})
 
     def test_outages(self) -> None:
         plan, wanted = [(0, GOOD)], []

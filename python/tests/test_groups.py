@@ -10,6 +10,7 @@ import unittest
 from support import EXAMPLE, RECORDING, SETTINGS, TestCase, damaged, example, reference, tmx
 
 from tmx.groups import OpenGroups
+from tmx.packets import Chosen
 
 RECORDINGS = int(os.environ.get("DAMAGED", "200"))
 SAID = re.compile(r"(?:group|broken|stray) record=(\d+) channel=(\d) apid=(\d+) (?:first=(\d+) last=(\d+)|count=(\d+))")
@@ -130,7 +131,7 @@ class Groups(TestCase):
     def test_what_is_held(self) -> None:
         """Nothing behind a packet that ends a group before its last segment."""
         packets = [struct.pack(">HHHB", 9, sequence, 0, 0) for sequence in (0x4005, 0xC006, 0x4007, 0x0009)]
-        held = OpenGroups(None, None, 0)
+        held = OpenGroups(Chosen(), 0)
         lengths = []
         for octets, flags, count in zip(packets, ("first", "unsegmented", "first", "continuation"), (5, 6, 7, 9)):
             held.take(tmx.Packet(0, 0, 0, 0, "tm", False, 9, flags, count, octets))

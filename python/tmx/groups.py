@@ -7,12 +7,12 @@ import os
 from collections.abc import Iterator
 from dataclasses import dataclass, field
 
-from .arguments import APPLICATIONS, CHANNELS, Number, Numbers, number, numbers
+from .arguments import Number, Numbers, number
 from .definition import Name
 from .errors import DisagreementError
 from .lines import Broken, Group, Line, Packet, Stray, read_lines
 from .notes import numbered, warn, warn_of_nothing
-from .packets import all_packets
+from .packets import Chosen, all_packets, chosen
 from .progress import Progress
 from .runs import Command, Runs, running, single_lines
 from .settings import Settings
@@ -54,19 +54,15 @@ Segments = list[tuple[int, bytes]]  # the sequence count and the data of each
 class OpenGroups:
     """The segments of groups that may become whole, by channel and application.
 
-    apids, channels   those that are wanted; None is all
+    chosen            those that are wanted
     secondary_header  how many octets are taken off a packet that has a secondary header
     came              whether any segment came
     """
 
-    apids: frozenset[int] | None
-    channels: frozenset[int] | None
+    chosen: Chosen
     secondary_header: int
     segments: dict[tuple[int, int], Segments] = field(default_factory=dict)
     came: bool = False
-
-    def is_chosen(self, channel: int, apid: int) -> bool:
-        return (self.apids is None or apid in self.apids) and (self.channels is None or channel in self.channels)
 
     def take(self, packet: Packet) -> None:
         """Holds a packet of a chosen application, where it may be one of a group that becomes whole."""
@@ -95,8 +91,7 @@ def groups(
     source: Source, settings: Name | Settings, apid: Numbers, channel: Numbers, header: Number, progress: Progress
 ) -> Iterator[JoinedGroup | Broken | Stray]:
     """The groups of a recording.  Refuses wrong arguments at once."""
-    chosen = numbers("apid", apid, APPLICATIONS), numbers("channel", channel, CHANNELS)
-    wanted = OpenGroups(*chosen, number("secondary_header", header, range(65537)))
+    wanted = OpenGroups(chosen(apid, channel), number("secondary_header", header, range(65537)))
     return read_groups(source, settings, wanted, progress)
 
 
@@ -109,8 +104,8 @@ def read_groups(
         yield from joined(runs, wanted)
         runs.finish()
     if not warn_of_nothing(runs, settings) and not wanted.came:
-        chosen = ("application", wanted.apids), ("channel", wanted.channels)
-        said = [numbered(word, them) for word, them in chosen if them]
+        named = ("application", wanted.chosen.apids), ("channel", wanted.chosen.channels)
+        said = [numbered(word, them) for word, them in named if them]
         warn(f"no segment of a group{' of ' if said else ''}{' on '.join(said)}")
 
 
@@ -121,14 +116,14 @@ def joined(runs: Runs, wanted: OpenGroups) -> Iterator[JoinedGroup | Broken | St
     for packet in all_packets(runs, LISTED):
         if packet.apid == IDLE:
             continue
-        if wanted.is_chosen(packet.channel, packet.apid):
+        if wanted.chosen.has(packet.apid, packet.channel):
             wanted.take(packet)
         if packet.flags == "last":
             yield from until(notes, (packet.record, packet.channel, packet.apid, packet.count), wanted)
     for note in notes:
         if isinstance(note, Group):
             raise DisagreementError(f"no packet completes the group of the report: {note}")
-        if wanted.is_chosen(note.channel, note.apid):
+        if wanted.chosen.has(note.apid, note.channel):
             yield note
 
 
@@ -139,7 +134,7 @@ def until(notes: Iterator[Note], place: tuple[int, int, int, int], wanted: OpenG
         here = not isinstance(note, Broken) and (note.record, note.channel, note.apid, count) == place
         if isinstance(note, Group) and not here:
             break
-        if wanted.is_chosen(note.channel, note.apid):
+        if wanted.chosen.has(note.apid, note.channel):
             yield wanted.join(note) if isinstance(note, Group) else note
         if here:
             return

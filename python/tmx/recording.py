@@ -33,7 +33,7 @@ from .lines import (
 )
 from .loss_map import Lines, LossMap, drawing
 from .notes import numbered, settings_of, warn, warn_of_nothing
-from .packets import PacketArray, chosen
+from .packets import Chosen, PacketArray, chosen
 from .programs import find_program
 from .progress import Progress
 from .rests import Rests
@@ -261,13 +261,13 @@ class Recording:
         The other words are those of `packets`, but the program writes `checkpoint`.  Raises DefinitionError, ColumnError, and
         UnicodeDecodeError, which names column and row, where a text isn't in the encoding.
         """
-        chosen = number("apid", apid, APPLICATIONS), numbers("channel", channel, CHANNELS)
+        single, channels = number("apid", apid, APPLICATIONS), numbers("channel", channel, CHANNELS)
         step = step_words(checkpoint, resume, stop_after)
         if rest is not None and step:
             raise ValueError("`rest` goes without `checkpoint`, `resume` and `stop_after`")
         read = encoding_of(encoding, errors, arrays or ()), time_of(time, epoch), report, step
-        more = arrays or {}, None if rest is None else Rests(rest, *chosen)
-        table = Table(definition, chosen[0], chosen[1], *read, *more)
+        more = arrays or {}, None if rest is None else Rests(rest, Chosen(frozenset({single}), channels))
+        table = Table(definition, single, channels, *read, *more)
         rows = None if blocks is None else number("blocks", blocks, RECORDS)
         tables = read_tables(table, self.source, self.settings, rows, progress)
         return next(tables) if rows is None else tables

@@ -9,7 +9,7 @@ from typing import TYPE_CHECKING
 from .arrays import objects
 from .definition import Column, Name, last_bit
 from .errors import ColumnError, DisagreementError
-from .packets import all_packets
+from .packets import Chosen, all_packets
 from .runs import Command, Runs
 
 if TYPE_CHECKING:
@@ -23,14 +23,13 @@ Rest = tuple[int, int, int, bytes]  # a packet's record, channel and sequence co
 class Rests:
     """The rests of an application's packets, in the order of the rows.
 
-    name      the name of their column
-    channels  those whose packets have rows; None is all
-    command   what gives the packets beside the rows
+    name     the name of their column
+    chosen   the packets that have rows
+    command  what gives the packets beside the rows
     """
 
     name: str
-    apid: int
-    channels: frozenset[int] | None
+    chosen: Chosen
     command: Command = Command(["packets", "--binary", "--report", os.devnull])
     found: Iterator[Rest] = field(default_factory=lambda: iter(()))
 
@@ -41,11 +40,8 @@ class Rests:
         self.found = (
             (it.record, it.channel, it.count, it.octets[begin:])
             for it in all_packets(runs, LISTED)
-            if it.apid == self.apid and 8 * len(it.octets) >= bits and self.has(it.channel)
+            if self.chosen.has(it.apid, it.channel) and 8 * len(it.octets) >= bits
         )
-
-    def has(self, channel: int) -> bool:
-        return self.channels is None or channel in self.channels
 
     def add_to(self, fields: "Fields") -> "Fields":
         """The table with the rests of its rows.

@@ -1,7 +1,6 @@
 pub mod Pairs
 pub mod Merging
 pub mod States
-pub mod EntryLemmas
 pub mod AfterValid
 pub mod HeaderLemmas
 pub mod RoundTrip

@@ -1,12 +1,12 @@
 -- The states that the code makes are valid.
-use Rattle.std.proofs.Common.{◌≡◌, ℕ, ◌+◌, ◌-◌, ◌*◌, zero, suc, Option, None, [], length, get_or, refl, sym, subst}
+use Rattle.std.proofs.Common.{◌≡◌, ℕ, ◌+◌, ◌-◌, ◌*◌, zero, suc, Option, None, [], ◌++◌, length, get_or, take, refl, sym, subst}
 use Rattle.std.proofs.Math.ListN.{replicate}
 use Rattle.std.proofs.lemmas.List.{length-replicate}
 use Rattle.tm_packet.specs.declared.tracker.PairEntry.{PairEntry}
 use Rattle.tm_packet.specs.Merge.{Entries, entry_at, no_entries}
 use Rattle.tm_packet.specs.Valid.{AreValidEntries, EntryFits}
 
-pub get_or-none : (n i : ℕ) → get_or (replicate {A = Option PairEntry} n None) i None ≡ None
+get_or-none : (n i : ℕ) → get_or (replicate {A = Option PairEntry} n None) i None ≡ None
 get_or-none zero i = refl
 get_or-none (suc n) zero = refl
 get_or-none (suc n) (suc i) = get_or-none n i
@@ -24,3 +24,7 @@ length-no_entries = length-replicate {A = Option PairEntry} 16384 None
 
 pub valid-none : AreValidEntries no_entries
 valid-none = record { places = length-no_entries; fit = λ key. none_fits (entry_at no_entries key) (none_at key); idle = λ channel. none_at (2048 * channel + 2047) }
+
+pub filled : (xs : Entries) (n : ℕ) → xs ≡ [] → n ≡ 0 → take 16384 xs ++ replicate (16384 - n) None ≡ no_entries
+unfolding no_entries
+filled xs n e h = rw (e, h) refl

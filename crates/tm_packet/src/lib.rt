@@ -2,7 +2,6 @@
 //! tell. That is gaps, and groups that are whole, broken, or still open.
 #![tactic(auto)]
 
-mod entries;
 mod header;
 pub mod laws;
 mod notes;

@@ -2,10 +2,10 @@
 
 ghost use Rattle.std.specs.Prelude.{◌≡◌, ◌+◌, ◌*◌, ◌<◌, ◌≤◌, ◌⊎◌, IfOk, IfErr, IfSome, OnOk, OnErr, IsOk, Ok, Err, Some, None, Decides, true, false, [], ◌∷◌, ◌++◌, length, drop, slice_set, vec_len, vec_capacity};
 
-use crate::entries::PairEntries;
+use crate::place::PairPlace;
 use crate::step::{gives_none, kept_after, notes_after};
 use crate::{Header, Note, Notes, Pair, Why};
-use std::alloc::Global;
+use std::alloc::{AllocError, Global};
 use std::marker::Model;
 use tm_bits::{push_two, two_at};
 
@@ -51,10 +51,13 @@ pub struct RawEntry {
     pub first: u16,
 }
 
+// One place for each key.
+const PAIRS: usize = 16384;
+
 /// What is kept of each channel and application, at the key of the pair.
 #[derive(Drop)]
 pub struct Tracker {
-    entries: PairEntries,
+    entries: Vec<PairPlace>,
 }
 
 impl Model for Tracker {
@@ -64,9 +67,9 @@ impl Model for Tracker {
 
     ghost use Rattle.tm_packet.specs.Valid.{AreValidEntries};
 
-    ghost view = { λ t. t.entries };
+    ghost view = { λ t. t.entries.items };
 
-    ghost invariant = { λ t. AreValidEntries t.entries };
+    ghost invariant = { λ t. AreValidEntries t.entries.items };
 }
 
 impl Tracker {
@@ -76,7 +79,7 @@ impl Tracker {
     ghost use Rattle.tm_packet.specs.Spelling.{entries_spelling, spelled, entries_from, entries_decoding_of, fault_after, raws, state_of, has_values, first_count_of};
     ghost use Rattle.tm_packet.specs.declared.tracker.TrackerFault.TheVariants as fault;
 
-    /// A tracker that has taken no header. Room for all 16,384 entries is reserved at once.
+    /// A tracker that has taken no header. All 16,384 places are reserved at once.
     ///
     /// # Errors
     ///
@@ -84,10 +87,20 @@ impl Tracker {
     pub fn new(alloc: Global) -> Result<Tracker, NoMemory>
         ensures { IfOk result (λ tracker. tracker ≡ no_entries) }
     {
-        match PairEntries::reserve(alloc) {
-            Ok(entries) => Ok(Tracker { entries }),
+        match Tracker::reserve(alloc) {
+            Ok(tracker) => Ok(tracker),
             Err(_) => Err(NoMemory),
         }
+    }
+
+    // A tracker with an empty place for each key.
+    #[tactic(auto, using(crate::proofs::States::filled))]
+    fn reserve(alloc: Global) -> Result<Tracker, AllocError>
+        ensures { IfOk result (λ tracker. tracker ≡ no_entries) }
+    {
+        let mut entries = Vec::with_capacity(alloc, PAIRS)?;
+        entries.resize(PAIRS, PairPlace::empty())?;
+        Ok(Tracker { entries })
     }
 
     /// Takes the next header of a channel, and answers its notes. An idle packet has none and changes nothing. Time is constant, and
@@ -102,8 +115,8 @@ impl Tracker {
             return Notes::none();
         }
         let key = key_of(channel, &header);
-        let entry = self.entries.entry(key);
-        self.entries.set(key, kept_after(entry, &header));
+        let entry = self.entries[key].entry();
+        self.entries[key] = PairPlace::of(kept_after(entry, &header));
         notes_after(entry, &header)
     }
 
@@ -120,11 +133,11 @@ impl Tracker {
             return true;
         }
         let key = key_of(channel, &header);
-        let entry = self.entries.entry(key);
+        let entry = self.entries[key].entry();
         if !gives_none(entry, &header) {
             return false;
         }
-        self.entries.set(key, kept_after(entry, &header));
+        self.entries[key] = PairPlace::of(kept_after(entry, &header));
         true
     }
 
@@ -133,13 +146,13 @@ impl Tracker {
         ensures value { result ≡ sequence.next_unclosed_of self.now at }
         ensures below { IfSome result (λ unclosed. unclosed.key < 16384) }
     {
-        for key in usize::from(at)..self.entries.end() {
+        for key in usize::from(at)..PAIRS {
             if let Some(
                 PairEntry {
                     count,
                     first: Some(first),
                 },
-            ) = self.entries.entry(key)
+            ) = self.entries[key].entry()
             {
                 let note = Note::Broken {
                     first,
@@ -227,23 +240,21 @@ impl Tracker {
             0xFFFF => None,
             first => Some(first),
         };
-        let entry = PairEntry {
+        self.entries[usize::from(raw.key)] = PairPlace::of(PairEntry {
             count: raw.count,
             first,
-        };
-        self.entries.set(usize::from(raw.key), entry);
+        });
     }
 
     // The number of entries.
-    #[tactic(auto, using(crate::proofs::EntryLemmas::no_entry_behind))]
     fn count(&self) -> usize
         ensures value { result ≡ length (entries_from 0 self.now) }
         ensures most { result ≤ 16384 }
         ensures valid { AreValidEntries self.now }
     {
         let mut count = 0;
-        for key in 0..self.entries.end() {
-            if self.entries.entry(key).is_some() {
+        for key in 0..PAIRS {
+            if self.entries[key].entry().is_some() {
                 count += 1;
             }
         }
@@ -258,11 +269,11 @@ impl Tracker {
         ensures { out.new.items ≡ out.old.items ++ spelled (entries_from 0 self.now) }
     {
         let mut left = count;
-        for key in 0..self.entries.end() {
+        for key in 0..PAIRS {
             if left == 0 {
                 return;
             }
-            if let Some(last) = self.entries.entry(key) {
+            if let Some(last) = self.entries[key].entry() {
                 push_entry(out, key as u16, &last);
                 left -= 1;
             }

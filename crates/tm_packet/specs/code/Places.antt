@@ -1,7 +1,6 @@
 -- What is kept of a pair as one number: the first count of the open group, and after it the last count, each FFFF where there is none.
-use Rattle.std.specs.Prelude.{ℕ, ◌≡◌, ◌+◌, ◌*◌, ◌/◌, ◌%◌, ◌==◌, Option, Some, None, List, ◌-◌, ◌++◌, length, replicate, if◌then◌else◌}
+use Rattle.std.specs.Prelude.{ℕ, ◌≡◌, ◌+◌, ◌*◌, ◌/◌, ◌%◌, ◌==◌, Option, Some, None, if◌then◌else◌}
 use Rattle.tm_packet.specs.declared.tracker.PairEntry.{PairEntry}
-use Rattle.tm_packet.specs.Merge.{Entries}
 use Rattle.tm_packet.specs.Spelling.{first_number, first_count_of}
 
 -- the entry of these counts
@@ -16,7 +15,3 @@ counts_of (Some e) = first_number e.first * 65536 + e.count
 -- counts that are those of an entry, or of none
 abbrev pub ArePlaced : ℕ → Type 0
 ArePlaced counts = counts_of (entry_in counts) ≡ counts
-
--- the entries of the first keys, with empty places for all others
-unfoldable pub with_empty : List (Option PairEntry) → Entries
-with_empty front = front ++ replicate (16384 - length front) None

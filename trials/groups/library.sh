@@ -132,8 +132,8 @@ library() {
     names
     if [ -n "${LIBRARY:-}" ]; then
         cp -r "$LIBRARY" library
-    elif ! command -v rt >/dev/null; then
-        skip 33 "the library" "no rt"
+    elif ! command -v rt >/dev/null || ! command -v cc >/dev/null; then
+        skip 33 "the library" "no rt, or no C compiler"
         return
     elif ! make_library; then
         no "the library is made: $(tail -n 3 made)"

@@ -246,7 +246,10 @@ def text(encoding: Element, path: str) -> Text:
 
 def ticks(chain: Chain, path: str) -> Ticks:
     """The seconds of a time behind its epoch."""
-    encoding, epoch = chain.child("Encoding"), child(chain.child("ReferenceTime"), "Epoch")
+    encoding, reference = chain.child("Encoding"), chain.child("ReferenceTime")
+    epoch = child(reference, "Epoch")
+    if child(reference, "OffsetFrom") is not None:
+        raise XtceError(path, "OffsetFrom of its time is not read")
     if epoch is None or encoding is None:
         raise XtceError(path, "its time has no reference epoch")
     units, said = encoding.get("units", "seconds"), (epoch.text or "").strip()

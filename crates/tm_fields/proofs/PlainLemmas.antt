@@ -1,11 +1,11 @@
 -- Values that CSV writes as they are: numbers and raw digits.
-use Rattle.std.proofs.Common.{◌≡◌, ℕ, zero, suc, ◌-◌, ◌^◌, ◌<◌, ◌≤◌, Bool, true, false, ◌||◌, ◌/◌, ◌%◌, List, [], ◌∷◌, ◌++◌, refl, ap, sym, ◌∙◌, append_assoc, inl, inr, arith, slice_index}
+use Rattle.std.proofs.Common.{◌≡◌, ℕ, zero, suc, ◌-◌, ◌^◌, ◌<◌, ◌≤◌, Bool, true, false, ◌||◌, ◌/◌, ◌%◌, List, [], ◌∷◌, ◌++◌, length, refl, ap, sym, ◌∙◌, append_assoc, inl, inr, arith, slice_index}
 use Rattle.std.specs.List.{list_any}
 use Rattle.std.specs.Char.{digit_value}
 use Rattle.std.specs.Fmt.{decimal}
 use Rattle.std.specs.Str.Parse.{AllDigits}
 use Rattle.std.proofs.lemmas.Bool.{cases_lt, lt-ltb, le-ltb, ne_eqb}
-use Rattle.std.proofs.lemmas.Fmt.{decimal_is_IsNumeral}
+use Rattle.std.proofs.lemmas.Fmt.{decimal_is_IsNumeral, length-decimal-le}
 use Rattle.std.proofs.lemmas.List.{append-nil}
 use Rattle.std.proofs.Math.Nat.{pow-le-pow_right, pow-succ'}
 use Rattle.csv.specs.Writing.{default_writer, fields_text, needs_byte, row_body}
@@ -39,16 +39,23 @@ decimal_plain n small = digits_plain (decimal n) (decimal_is_IsNumeral n small).
 pub number_made : (row : List ℕ) (n : ℕ) → n < 2 ^ 64 → (row ++ 44 ∷ []) ++ decimal n ≡ row ++ fields_text default_writer (decimal n ∷ [])
 number_made row n small = append_assoc row (44 ∷ []) (decimal n) ∙ ap (λ value. row ++ value) (sym (column (decimal n) (decimal_plain n small)))
 
--- a number, and then values after commas
-pub lead_made : (row : List ℕ) (n : ℕ) (a b c : List ℕ) → n < 2 ^ 64
-    → (((row ++ decimal n) ++ fields_text default_writer (a ∷ [])) ++ fields_text default_writer (b ∷ [])) ++ fields_text default_writer (c ∷ [])
-    ≡ row ++ row_body default_writer (decimal n ∷ a ∷ b ∷ c ∷ [])
-lead_made row n a b c small =
-    let first = fields_text default_writer (a ∷ []) in
-    let second = fields_text default_writer (b ∷ []) in
-    let third = fields_text default_writer (c ∷ []) in
-    rw (fields_of_both (a ∷ []) (b ∷ c ∷ []), fields_of_both (b ∷ []) (c ∷ []), decimal_plain n small)
-    (append_assoc ((row ++ decimal n) ++ first) second third ∙ append_assoc (row ++ decimal n) first (second ++ third) ∙ append_assoc row (decimal n) (first ++ (second ++ third)))
+-- four numbers with a comma before each but the first
+pub lead_made : (n a b c : ℕ) → n < 2 ^ 64 → a < 2 ^ 64 → b < 2 ^ 64 → c < 2 ^ 64
+    → decimal n ++ 44 ∷ (decimal a ++ 44 ∷ (decimal b ++ 44 ∷ (decimal c ++ [])))
+    ≡ row_body default_writer (decimal n ∷ decimal a ∷ decimal b ∷ decimal c ∷ [])
+lead_made n a b c n_small a_small b_small c_small =
+    rw (
+      append-nil (decimal c),
+      decimal_plain n n_small,
+      fields_of_both (decimal a ∷ []) (decimal b ∷ decimal c ∷ []),
+      fields_of_both (decimal b ∷ []) (decimal c ∷ []),
+      column (decimal a) (decimal_plain a a_small),
+      column (decimal b) (decimal_plain b b_small),
+      column (decimal c) (decimal_plain c c_small),
+    ) refl
+
+pub ten_digits : (n : ℕ) → n < 2 ^ 32 → length (decimal n) ≤ 10
+ten_digits n small = length-decimal-le 10 n (omega arith) (omega arith) (omega arith)
 
 signed_plain : (bits number : ℕ) → 1 ≤ bits → bits ≤ 64 → number < 2 ^ bits → list_any is_set_apart (signed bits number) ≡ false
 signed_plain bits number some few bound =

@@ -18,8 +18,8 @@ use std::alloc::{AllocError, Global};
 use std::io::Write;
 use tm_bits::push_escaped;
 
-/// Writes a number at the end of a text.
-pub(crate) fn push_number<I: Integer>(text: &mut Vec<u8>, number: I) -> Result<(), AllocError>
+// Writes a number at the end of a text.
+fn push_number<I: Integer>(text: &mut Vec<u8>, number: I) -> Result<(), AllocError>
     ensures { OnOk result (text.new.items ≡ text.old.items ++ I.text number) }
 {
     text.extend_from_slice(Buffer::new().format(number).as_bytes())
@@ -33,8 +33,8 @@ pub(crate) fn power(bits: u32) -> u128
     1 << bits
 }
 
-/// Writes a comma and a number at the end of a row.
-pub(crate) fn push_uint(row: &mut Vec<u8>, number: u64) -> Result<(), AllocError>
+// Writes a comma and a number at the end of a row.
+fn push_uint(row: &mut Vec<u8>, number: u64) -> Result<(), AllocError>
     ensures { OnOk result (row.new.items ≡ row.old.items ++ fields_text default_writer (decimal number ∷ [])) }
 {
     row.push(b',')?;

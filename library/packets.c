@@ -16,7 +16,7 @@ int main(int argc, char **argv) {
             return 1;
         }
         for (size_t at = 0, octets; at < job.answer.out_length; at += 16 + octets) {
-            const uint8_t *packet = job.out.at + at + 16; /* behind 16 octets that say where it was found */
+            const uint8_t *packet = job.out.at + at + 16; /* after 16 octets that say where it was found */
             octets = (packet[4] << 8 | packet[5]) + 7u;
             printf("apid=%u octets=%zu\n", (packet[0] & 7u) << 8 | packet[1], octets);
         }

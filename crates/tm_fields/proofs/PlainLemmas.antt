@@ -57,6 +57,8 @@ lead_made n a b c n_small a_small b_small c_small =
 pub ten_digits : (n : ℕ) → n < 2 ^ 32 → length (decimal n) ≤ 10
 ten_digits n small = length-decimal-le 10 n (omega arith) (omega arith) (omega arith)
 
+pub ruleset lead_rules = (ten_digits, lead_made)
+
 signed_plain : (bits number : ℕ) → 1 ≤ bits → bits ≤ 64 → number < 2 ^ bits → list_any is_set_apart (signed bits number) ≡ false
 signed_plain bits number some few bound =
     let most = pow-le-pow_right {n = 2} (omega arith) few in

@@ -56,7 +56,7 @@ fn prepend_uint(room: &mut [u8; LEAD_ROOM], end: usize, number: u32) -> usize
 }
 
 /// Writes the numbers that a row begins with at the end of a text. They are made in an array, so the text grows once.
-#[tactic(auto, using(std::proofs::lemmas::Grind::common_steps, crate::proofs::PlainLemmas::ten_digits, crate::proofs::PlainLemmas::lead_made))]
+#[tactic(auto, using(std::proofs::lemmas::Grind::common_steps, crate::proofs::PlainLemmas::lead_rules))]
 pub(crate) fn push_lead(row: &mut Vec<u8>, lead: Lead) -> Result<(), AllocError>
     ensures { OnOk result (row.new.items ≡ row.old.items ++ row_body default_writer (lead_texts lead)) }
 {

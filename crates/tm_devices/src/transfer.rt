@@ -6,8 +6,9 @@ ghost use Rattle.tm_devices.specs.Devices.{AppendsPrefix, CountsFailures};
 
 use crate::{BufferedSource, DeviceFailed, Drain};
 
-/// Writes all the octets, by as many writes as it takes.
-pub fn write_all<W: Drain>(out: &mut W, octets: &[u8]) -> Result<(), DeviceFailed>
+// Writes octets by as many writes as it takes. It stands apart, since most are taken by one.
+#[inline(never)]
+fn write_rest<W: Drain>(out: &mut W, octets: &[u8]) -> Result<(), DeviceFailed>
     ensures same { W.fixed out.new ≡ W.fixed out.old }
     ensures whole { OnOk result (Appends (W.written out.old) (W.written out.new) octets.now) }
     ensures prefix { OnErr result (AppendsPrefix (W.written out.old) (W.written out.new) octets.now) }
@@ -20,6 +21,25 @@ pub fn write_all<W: Drain>(out: &mut W, octets: &[u8]) -> Result<(), DeviceFaile
         rest = &rest[n..];
     }
     Ok(())
+}
+
+/// Writes all the octets, by as many writes as it takes.
+#[inline(always)]
+pub fn write_all<W: Drain>(out: &mut W, octets: &[u8]) -> Result<(), DeviceFailed>
+    ensures same { W.fixed out.new ≡ W.fixed out.old }
+    ensures whole { OnOk result (Appends (W.written out.old) (W.written out.new) octets.now) }
+    ensures prefix { OnErr result (AppendsPrefix (W.written out.old) (W.written out.new) octets.now) }
+    ensures some { OnErr result (octets.now ≢ []) }
+    ensures counts { CountsFailures (W.failures out.old) (W.failures out.new) result }
+{
+    if octets.is_empty() {
+        return Ok(());
+    }
+    let n = out.write(octets)?;
+    if n == octets.len() {
+        return Ok(());
+    }
+    write_rest(out, &octets[n..])
 }
 
 /// Whether the next `octets` octets are not all at hand, and the source may wait for them.

@@ -1,7 +1,7 @@
 -- What is gone from `rest` was appended, and no call failed yet.
 use Rattle.std.proofs.Common.{◌≡◌, ℕ, List, ◌++◌, length}
 use Rattle.std.specs.Io.KnownBytes.{Appends}
-use Rattle.tm_devices.proofs.transfer.write_all.Given as goal
+use Rattle.tm_devices.proofs.transfer.write_rest.Given as goal
 
 abbrev pub invariant-loop-rest : goal.invariant-loop-rest
 invariant-loop-rest g l =

@@ -1,6 +1,7 @@
 pub mod Pairs
 pub mod Merging
 pub mod States
+pub mod TableLemmas
 pub mod AfterValid
 pub mod HeaderLemmas
 pub mod RoundTrip

@@ -1,6 +1,6 @@
 -- All pairs' headers together.
-use Rattle.std.proofs.Common.{◌≡◌, ℕ, ◌+◌, ◌<◌, zero, suc, Bool, true, false, not, Option, Some, None, List, [], ◌∷◌, ◌++◌, length, get_or, set, refl, sym, ap, ◌∙◌, append_assoc, arith, length-append, subst}
-use Rattle.std.proofs.lemmas.List.{append-nil, get_or-append-add, get_or_append_left, get_or_default}
+use Rattle.std.proofs.Common.{◌≡◌, ℕ, ◌+◌, ◌<◌, zero, suc, Bool, true, false, not, Option, Some, List, [], ◌∷◌, ◌++◌, length, set, refl, sym, ap, ◌∙◌, append_assoc, arith, length-append, subst}
+use Rattle.std.proofs.lemmas.List.{append-nil, get_or-append-add, get_or_append_left}
 use Rattle.std.proofs.Math.Bool.{and-false}
 use Rattle.std.proofs.lemmas.Bool.{eq-eqb, ne_eqb}
 use Rattle.std.specs.Prelude.{if◌then◌else◌}
@@ -139,16 +139,16 @@ notes-one s p h =
 
 -- the same, as the code has it
 pub left_by : (old entries : Entries) (p : Sent) (k : ℕ) (e : Option PairEntry) (kept : PairEntry) → entries ≡ old → k ≡ key_of p
-    → is_idle p.header ≡ false → k < length entries → e ≡ get_or entries k e → kept ≡ single_after e p.header
+    → is_idle p.header ≡ false → k < length entries → e ≡ entry_at entries k → kept ≡ single_after e p.header
     → set entries k (Some kept) ≡ entries_after old (p ∷ [])
 left_by old entries p k e kept same at h inside found is =
     let there : key_of p < length old = subst (λ n. n < length old) at (subst (λ s. k < length s) same inside) in
-    rw (after-one old p h there, is, found ∙ get_or_default entries k e None inside, same, at) refl
+    rw (after-one old p h there, is, found, same, at) refl
 
 pub noted_by : (old entries : Entries) (p : Sent) (k : ℕ) (e : Option PairEntry) (result : List Note) → entries ≡ old → k ≡ key_of p
-    → is_idle p.header ≡ false → k < length entries → e ≡ get_or entries k e → result ≡ single_notes e p.header → notes old (p ∷ []) ≡ result ∷ []
-noted_by old entries p k e result same at h inside found is =
-    rw (notes-one old p h, is, found ∙ get_or_default entries k e None inside, same, at) refl
+    → is_idle p.header ≡ false → e ≡ entry_at entries k → result ≡ single_notes e p.header → notes old (p ∷ []) ≡ result ∷ []
+noted_by old entries p k e result same at h found is =
+    rw (notes-one old p h, is, found, same, at) refl
 
 pub ruleset joins = (notes-append, after-append)
 

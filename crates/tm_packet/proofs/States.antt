@@ -11,7 +11,7 @@ get_or-none zero i = refl
 get_or-none (suc n) zero = refl
 get_or-none (suc n) (suc i) = get_or-none n i
 
-none_at : (key : ℕ) → entry_at no_entries key ≡ None
+pub none_at : (key : ℕ) → entry_at no_entries key ≡ None
 unfolding no_entries
 none_at key = get_or-none 16384 key
 
@@ -24,6 +24,9 @@ length-no_entries = length-replicate {A = Option PairEntry} 16384 None
 
 pub valid-none : AreValidEntries no_entries
 valid-none = record { places = length-no_entries; fit = λ key. none_fits (entry_at no_entries key) (none_at key); idle = λ channel. none_at (2048 * channel + 2047) }
+
+pub valid_empty : (s : Entries) → s ≡ no_entries → AreValidEntries s
+valid_empty s h = rw h valid-none
 
 pub filled : (xs : Entries) (n : ℕ) → xs ≡ [] → n ≡ 0 → take 16384 xs ++ replicate (16384 - n) None ≡ no_entries
 unfolding no_entries

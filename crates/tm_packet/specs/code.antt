@@ -1,3 +1,4 @@
 pub mod Headers
 pub mod Single
 pub mod Places
+pub mod Blocks

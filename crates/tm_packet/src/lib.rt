@@ -8,6 +8,7 @@ mod notes;
 mod pair;
 mod place;
 mod step;
+mod table;
 mod tracker;
 
 pub use header::{Flags, Header, PacketFault, packet_version, read_header, write_header};

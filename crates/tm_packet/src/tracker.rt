@@ -1,11 +1,11 @@
 //! The tracker of sequence counts and groups, and its spelling in octets.
 
-ghost use Rattle.std.specs.Prelude.{◌≡◌, ◌+◌, ◌*◌, ◌<◌, ◌≤◌, ◌⊎◌, IfOk, IfErr, IfSome, OnOk, OnErr, IsOk, Ok, Err, Some, None, Decides, true, false, [], ◌∷◌, ◌++◌, length, drop, slice_set, vec_len, vec_capacity};
+ghost use Rattle.std.specs.Prelude.{◌≡◌, ◌≢◌, ◌+◌, ◌*◌, ◌<◌, ◌≤◌, ◌⊎◌, IfOk, IfErr, IfSome, OnOk, OnErr, IsOk, Ok, Err, Some, None, Decides, true, false, [], ◌∷◌, ◌++◌, length, drop, slice_set, vec_len, vec_capacity};
 
-use crate::place::PairPlace;
 use crate::step::{gives_none, kept_after, notes_after};
+use crate::table::PairTable;
 use crate::{Header, Note, Notes, Pair, Why};
-use std::alloc::{AllocError, Global};
+use std::alloc::Global;
 use std::marker::Model;
 use tm_bits::{push_two, two_at};
 
@@ -51,13 +51,10 @@ pub struct RawEntry {
     pub first: u16,
 }
 
-// One place for each key.
-const PAIRS: usize = 16384;
-
 /// What is kept of each channel and application, at the key of the pair.
 #[derive(Drop)]
 pub struct Tracker {
-    entries: Vec<PairPlace>,
+    table: PairTable,
 }
 
 impl Model for Tracker {
@@ -67,9 +64,9 @@ impl Model for Tracker {
 
     ghost use Rattle.tm_packet.specs.Valid.{AreValidEntries};
 
-    ghost view = { λ t. t.entries.items };
+    ghost view = { λ t. t.table };
 
-    ghost invariant = { λ t. AreValidEntries t.entries.items };
+    ghost invariant = { λ t. AreValidEntries t.table };
 }
 
 impl Tracker {
@@ -84,23 +81,14 @@ impl Tracker {
     /// # Errors
     ///
     /// `NoMemory` where they can't be had.
+    #[tactic(auto, using(crate::proofs::States::valid_empty))]
     pub fn new(alloc: Global) -> Result<Tracker, NoMemory>
         ensures { IfOk result (λ tracker. tracker ≡ no_entries) }
     {
-        match Tracker::reserve(alloc) {
-            Ok(tracker) => Ok(tracker),
+        match PairTable::new(alloc) {
+            Ok(table) => Ok(Tracker { table }),
             Err(_) => Err(NoMemory),
         }
-    }
-
-    // A tracker with an empty place for each key.
-    #[tactic(auto, using(crate::proofs::States::filled))]
-    fn reserve(alloc: Global) -> Result<Tracker, AllocError>
-        ensures { IfOk result (λ tracker. tracker ≡ no_entries) }
-    {
-        let mut entries = Vec::with_capacity(alloc, PAIRS)?;
-        entries.resize(PAIRS, PairPlace::empty())?;
-        Ok(Tracker { entries })
     }
 
     /// Takes the next header of a channel, and answers its notes. An idle packet has none and changes nothing. Time is constant, and
@@ -115,8 +103,8 @@ impl Tracker {
             return Notes::none();
         }
         let key = key_of(channel, &header);
-        let entry = self.entries[key].entry();
-        self.entries[key] = PairPlace::of(kept_after(entry, &header));
+        let entry = self.table.entry(key);
+        self.table.put(key, kept_after(entry, &header));
         notes_after(entry, &header)
     }
 
@@ -133,30 +121,50 @@ impl Tracker {
             return true;
         }
         let key = key_of(channel, &header);
-        let entry = self.entries[key].entry();
+        let entry = self.table.entry(key);
+        if entry.is_none() {
+            return self.begin_without_notes(channel, header);
+        }
         if !gives_none(entry, &header) {
             return false;
         }
-        self.entries[key] = PairPlace::of(kept_after(entry, &header));
+        self.table.change(key, kept_after(entry, &header));
+        true
+    }
+
+    // Takes the first header of a pair if it has no notes, and answers whether it has none.
+    #[cold]
+    #[inline(never)]
+    #[tactic(auto, using(crate::proofs::Merging::one_header))]
+    fn begin_without_notes(&mut self, channel: u8, header: Header) -> bool
+        requires channel { channel < 8 }
+        requires packet { sequence.is_idle header ≡ false }
+        requires first { sequence.entry_at self.old (key_of (record { channel = channel; header = header })) ≡ None }
+        ensures none { Decides result (sequence.notes self.old (record { channel = channel; header = header } ∷ []) ≡ [] ∷ []) }
+        ensures recorded { result ≡ true → self.new
+            ≡ sequence.entries_after self.old (record { channel = channel; header = header } ∷ []) }
+        ensures left { result ≡ false → self.new ≡ self.old }
+    {
+        if !gives_none(None, &header) {
+            return false;
+        }
+        self.table
+            .put(key_of(channel, &header), kept_after(None, &header));
         true
     }
 
     /// The least key from `at` on whose group is open, with the note that the end breaks it. No memory is taken.
+    #[tactic(auto, using(crate::proofs::TableLemmas::open_next))]
     pub fn next_unclosed(&self, at: u16) -> Option<Unclosed>
         ensures value { result ≡ sequence.next_unclosed_of self.now at }
         ensures below { IfSome result (λ unclosed. unclosed.key < 16384) }
     {
-        for key in usize::from(at)..PAIRS {
-            if let Some(
-                PairEntry {
-                    count,
-                    first: Some(first),
-                },
-            ) = self.entries[key].entry()
-            {
+        let mut from = usize::from(at);
+        while let Some((key, last)) = self.table.next_entry(from) {
+            if let Some(first) = last.first {
                 let note = Note::Broken {
                     first,
-                    last: count,
+                    last: last.count,
                     why: Why::Close,
                 };
                 return Some(Unclosed {
@@ -164,6 +172,7 @@ impl Tracker {
                     note,
                 });
             }
+            from = key + 1;
         }
         None
     }
@@ -187,7 +196,7 @@ impl Tracker {
             Err(_) => return Err(NoMemory),
         }
         push_two(out, count as u16);
-        self.push_entries(count, out);
+        self.push_entries(out);
         Ok(())
     }
 
@@ -240,10 +249,11 @@ impl Tracker {
             0xFFFF => None,
             first => Some(first),
         };
-        self.entries[usize::from(raw.key)] = PairPlace::of(PairEntry {
+        let entry = PairEntry {
             count: raw.count,
             first,
-        });
+        };
+        self.table.put(usize::from(raw.key), entry);
     }
 
     // The number of entries.
@@ -253,30 +263,23 @@ impl Tracker {
         ensures valid { AreValidEntries self.now }
     {
         let mut count = 0;
-        for key in 0..PAIRS {
-            if self.entries[key].entry().is_some() {
-                count += 1;
-            }
+        let mut at = 0;
+        while let Some((key, _)) = self.table.next_entry(at) {
+            count += 1;
+            at = key + 1;
         }
         count
     }
 
-    // Appends `count` entries, for which there is room. What lies after the last of them isn't looked at.
-    #[tactic(auto, using(std::proofs::lemmas::List::nil_from_length))]
-    fn push_entries(&self, count: usize, out: &mut Vec<u8>)
-        requires all { count ≡ length (entries_from 0 self.now) }
-        requires room { vec_len out.old + 6 * count ≤ vec_capacity out.old }
+    // Appends the entries, for which there is room.
+    fn push_entries(&self, out: &mut Vec<u8>)
+        requires { vec_len out.old + 6 * length (entries_from 0 self.now) ≤ vec_capacity out.old }
         ensures { out.new.items ≡ out.old.items ++ spelled (entries_from 0 self.now) }
     {
-        let mut left = count;
-        for key in 0..PAIRS {
-            if left == 0 {
-                return;
-            }
-            if let Some(last) = self.entries[key].entry() {
-                push_entry(out, key as u16, &last);
-                left -= 1;
-            }
+        let mut at = 0;
+        while let Some((key, last)) = self.table.next_entry(at) {
+            push_entry(out, key as u16, &last);
+            at = key + 1;
         }
     }
 }

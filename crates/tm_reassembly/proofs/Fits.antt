@@ -103,10 +103,24 @@ good layout octets h long none = record {
   most = λ some. let l = field-length layout octets in omega arith;
 }
 
+-- no frame is longer than the layout says, whatever the record
+frame-long : (layout : LayoutParts) (octets : List ℕ) → length (frame_of layout octets) ≤ layout.frame_length
+frame-long layout octets =
+    omega (arith, length-take ((layout.skip_before + layout.frame_length) - layout.skip_before) (drop layout.skip_before octets))
+
 pub reading-good : (layout : LayoutParts) (octets : List ℕ) → AreOctets octets → IsRead layout (frame_reading_of layout octets)
 reading-good layout octets h =
-    let long : length (frame_of layout octets) ≤ layout.frame_length =
-    omega (arith, length-take ((layout.skip_before + layout.frame_length) - layout.skip_before) (drop layout.skip_before octets)) in
     let inside : AreOctets (frame_of layout octets) =
     octets_take ((layout.skip_before + layout.frame_length) - layout.skip_before) (drop layout.skip_before octets) (octets_behind layout.skip_before octets h) in
-    reading-by (IsRead layout) layout octets (λ fault. tt) (good layout (frame_of layout octets) inside long)
+    reading-by (IsRead layout) layout octets (λ fault. tt) (good layout (frame_of layout octets) inside (frame-long layout octets))
+
+-- the data field of a good frame has at most this many octets
+abbrev pub FieldWithin : ℕ → FrameReading → Type 0
+FieldWithin most (Err fault) = Unit {0}
+FieldWithin most (Ok f) = length f.field ≤ most
+
+pub field-within : (layout : LayoutParts) (octets : List ℕ) → layout.frame_length ≤ 2048 → FieldWithin 2042 (frame_reading_of layout octets)
+field-within layout octets short =
+    let long = frame-long layout octets in
+    let l = field-length layout (frame_of layout octets) in
+    reading-by (FieldWithin 2042) layout octets (λ fault. tt) (λ none. omega arith)

@@ -32,6 +32,7 @@ pub mod Blocks
 pub mod OneHeld
 pub mod Merged
 pub mod Limited
+pub mod Bounded
 pub mod ItemChannels
 pub mod Decoding
 pub mod Spelling

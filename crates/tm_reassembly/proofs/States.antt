@@ -220,3 +220,11 @@ tail-short limit (x ∷ xs) least h =
 pub short-tails : (rules : Rules) (s : State) → IsValidState rules s → (c : ℕ) (last : Last) (t : Tail)
     → slice_get s.channels c ≡ Some (Some last) → last.tail ≡ Some t → length t.octets < rules.max_packet
 short-tails rules s v c last t e f = tail-short rules.max_packet t.octets v.limit.least (v.shape.tails c last t e f)
+
+-- likewise of what is held of a channel
+pub short-held : (rules : Rules) (s : State) → IsValidState rules s → (c : ℕ) (t : Tail) → tail_of (slice_get s.channels c) ≡ Some t → length t.octets < rules.max_packet
+short-held rules s v c t held = by (slice_get s.channels c) refl held
+  where
+    by : (x : Option (Option Last)) → slice_get s.channels c ≡ x → tail_of x ≡ Some t → length t.octets < rules.max_packet
+    by (Some (Some last)) e f = short-tails rules s v c last t e f
+    by x e f = absurd (cc)

@@ -9,6 +9,7 @@ pub mod Checkpoint
 pub mod OlderForms
 pub mod Valid
 pub mod Origins
+pub mod Bounds
 pub mod Verdict
 pub mod Tiles
 pub mod Absolute

@@ -4,10 +4,12 @@ ghost use Rattle.std.specs.Prelude.{◌≡◌, ◌⊎◌, ℕ, ◌+◌, ◌^◌,
 ghost use Rattle.std.specs.List.{flat_map, filter};
 ghost use Rattle.tm_bits.specs.Bits.{AreOctets};
 ghost use Rattle.tm_frame.specs.declared.layout.LayoutParts.{LayoutParts};
+ghost use Rattle.tm_frame.specs.Layout.{IsInRange};
 ghost use Rattle.tm_frame.specs.Rules.{Rules, IsLimit, chooses};
 ghost use Rattle.tm_reassembly.specs.State.{State, Tail};
 ghost use Rattle.tm_reassembly.specs.Valid.{IsValidState, AllOctets};
 ghost use Rattle.tm_reassembly.specs.Origins.{Records, Origin, given_items, state_behind, items_forgotten, state_forgotten, runs_of, items_of_channel, read_from};
+ghost use Rattle.tm_reassembly.specs.Bounds.{event_counts, packet_sizes};
 ghost use Rattle.tm_reassembly.specs.Checkpoint.{state_spelling, old_spelling, DecodedState, state_decoding_of, old_decoding_of};
 ghost use Rattle.tm_reassembly.specs.OlderForms.{LacksFirstGap, without_gaps_at, first_good_record, one_octet_more, without_master};
 ghost use Rattle.tm_reassembly.specs.Items.{empty, held_part, chain_parts, master_items, seen_at};
@@ -120,6 +122,16 @@ pub fn nothing_is_lost()
 pub fn limited_packets()
     ensures limited { (o : Origin) (records : Records) (seen channel first place : ℕ) (octets : List ℕ) →
         Among (Packet seen channel first place octets) (given_items o records) → length octets ≤ o.rules.max_packet }
+{}
+
+/// Bounds: from a valid state, under a layout in range, one record gives at most 1,170 events. A packet counts as four of them, itself
+/// and at most three notes of its header, and any other item as one. The record's packets have at most `max_packet` + 2,041 octets
+/// together.
+pub fn bounds()
+    ensures events { (o : Origin) (octets : List ℕ) → IsInRange o.rules.layout →
+        event_counts (given_items o (octets ∷ [])) ≤ 1170 }
+    ensures sizes { (o : Origin) (octets : List ℕ) → IsInRange o.rules.layout →
+        packet_sizes (given_items o (octets ∷ [])) ≤ o.rules.max_packet + 2041 }
 {}
 
 /// Tiling, from no records: take the packets and dropped parts of a chosen channel in the order given, and then its held tail.

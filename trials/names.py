@@ -44,7 +44,7 @@ FOR_TESTS = ("tm_memory", "tm_tests", "tm_program_tests")
 VAGUE = (
     (re.compile(r"\w+_by"), "doesn't say what it does", ()),
     (re.compile(r"(?:put|take)_\w+"), "doesn't say whether it reads, writes or sets", ("take_front",)),
-    (re.compile(r"[a-z]+ed|kept|lent|made|ran|taken|told"), "is neither a verb nor a noun", ("failed",)),
+    (re.compile(r"[a-z]+ed|kept|lent|made|ran|taken|told"), "is neither a verb nor a noun", ("failed", "feed")),
 )
 
 COMMENT = re.compile(r"\s*(//[/!]?|--)(?: (.*))?$")

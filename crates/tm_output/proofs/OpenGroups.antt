@@ -36,7 +36,7 @@ next_open at [] u is = absurd (none-some u is)
 next_open at (None ∷ es) u is = later at None es u refl (next_open (at + 1) es u is)
 next_open at (Some last ∷ es) u is = by_first at last es u last.first refl (next_open (at + 1) es u) is
 
-no_first : (us : List Unclosed) → slice_get us 0 ≡ None → us ≡ []
+pub no_first : (us : List Unclosed) → slice_get us 0 ≡ None → us ≡ []
 no_first [] is = refl
 no_first (u ∷ us) is = absurd (none-some u (sym is))
 

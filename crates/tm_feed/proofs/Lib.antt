@@ -1,0 +1,6 @@
+pub mod SinkLemmas
+pub mod TakeLemmas
+pub mod RoomLemmas
+pub mod FeedLemmas
+pub mod EndLemmas
+pub mod CallLemmas

@@ -1,0 +1,3 @@
+pub mod Sinking
+pub mod Taking
+pub mod Groups

@@ -1,0 +1,257 @@
+//! The job: how far it has got, and the calls that feed it.
+
+use crate::ending::{give_closing, give_groups};
+use crate::event::Event;
+use crate::sink::EventSink;
+use crate::taking::{EVENTS_MOST, add_octets};
+use std::alloc::{AllocError, Global};
+use std::marker::Model;
+use tm_checkpoint::{read_checkpoint, write_checkpoint};
+use tm_faults::CheckpointFault;
+use tm_packet::Tracker;
+use tm_reassembly::Reassembly;
+use tm_settings::Settings;
+use tm_tool::NoMemory;
+
+/// Why a call took no more octets, or gave no more events.
+#[derive(Clone, Copy, Debug, PartialEq, Eq)]
+pub enum StopReason {
+    /// All are taken.
+    Done,
+    /// A room may be too small for what the next record gives.
+    Room,
+    /// As many records are done as can be told.
+    TooMany,
+    /// The recording was closed.
+    Closed,
+}
+
+/// How far the end of the recording is told.
+#[derive(Clone, Copy, Debug, PartialEq, Eq)]
+pub enum EndProgress {
+    /// It isn't closed.
+    Open,
+    /// The items of the end are given, and the groups that are open from this key on are left.
+    Groups(u16),
+    /// All is given.
+    Told,
+}
+
+/// What a call did.
+#[derive(Clone, Copy, Debug, PartialEq, Eq)]
+pub struct Fed {
+    /// How many octets it took.
+    pub used: usize,
+    /// How many events it gave, and how many octets of packets.
+    pub events: usize,
+    pub octets: usize,
+    /// Why it took no more.
+    pub stop: StopReason,
+}
+
+ghost use Rattle.std.specs.Prelude.{◌≡◌};
+ghost use Rattle.tm_feed.specs.Jobs.{all_given};
+
+// The packets of all applications are given.
+#[tactic(auto, unfolding(crate::specs::Jobs::all_given))]
+fn all_given() -> [bool; 2048]
+    ensures { result ≡ all_given }
+{
+    [true; 2048]
+}
+
+/// A job that is fed with the octets of a recording. It keeps the part of a record that isn't whole.
+#[derive(Drop)]
+pub struct FedJob {
+    reassembly: Reassembly,
+    tracker: Tracker,
+    part: Vec<u8>,
+    only: [bool; 2048],
+    end: EndProgress,
+}
+
+impl Model for FedJob {
+    ghost use Rattle.std.specs.Prelude.{◌≡◌, ◌<◌, ◌≤◌, length, vec_capacity};
+    ghost use Rattle.tm_frame.specs.Layout.{record_length_of};
+    ghost use Rattle.tm_checkpoint.specs.Works.{IsGoing, work_of};
+    ghost use Rattle.tm_feed.specs.States.{FeedState, IsKey};
+
+    ghost Value = { FeedState };
+
+    ghost view = { λ j. record {
+      work = work_of j.reassembly j.tracker;
+      part = j.part.items;
+      only = j.only;
+      end = j.end;
+    } };
+
+    ghost invariant = { λ j. IsGoing j.reassembly × (length j.part.items < record_length_of j.reassembly.rules.layout)
+        × (record_length_of j.reassembly.rules.layout ≤ vec_capacity j.part) × IsKey j.end };
+}
+
+impl FedJob {
+    ghost use Rattle.std.specs.Prelude.{◌≡◌, ◌≢◌, ◌≤◌, Err, length, take, IfOk, IfErr};
+    ghost use Rattle.tm_checkpoint.specs.Works.{IsGoing, new_job, work_of};
+    ghost use Rattle.tm_checkpoint.specs.Checkpoints.{checkpoint_of, resumed};
+    ghost use Rattle.tm_feed.specs.Endings.{EndedBy, GivesEnd};
+    ghost use Rattle.tm_feed.specs.Jobs.{IsFed, GoesOnFrom, IsStopped, new_feed, record_size};
+
+    // With a reassembly and its tracker, and no octets of a further record.
+    fn with(alloc: Global, reassembly: Reassembly, tracker: Tracker) -> Result<FedJob, AllocError>
+        requires { IsGoing reassembly }
+        ensures { IfOk result (λ job. job ≡ new_feed (work_of reassembly tracker)) }
+    {
+        let part = Vec::with_capacity(alloc, reassembly.layout().record_length())?;
+        Ok(FedJob {
+            reassembly,
+            tracker,
+            part,
+            only: all_given(),
+            end: EndProgress::Open,
+        })
+    }
+
+    /// Before any record. All memory is taken here: the tails of eight channels, each with room for the longest packet, the entries of all
+    /// sequence counts, and a record. `feed` and `end` take none.
+    ///
+    /// # Errors
+    ///
+    /// `NoMemory` where that can't be had.
+    #[tactic(auto, using(tm_tool::proofs::Running::none_valid))]
+    pub fn new(alloc: Global, settings: &Settings) -> Result<FedJob, NoMemory>
+        ensures { IfOk result (λ job. job ≡ new_feed (new_job settings.now).work) }
+    {
+        let Ok(reassembly) = Reassembly::new(
+            alloc,
+            settings.layout(),
+            settings.channels(),
+            settings.max_packet(),
+        ) else {
+            return Err(NoMemory);
+        };
+        let Ok(tracker) = Tracker::new(alloc) else {
+            return Err(NoMemory);
+        };
+        match FedJob::with(alloc, reassembly, tracker) {
+            Ok(job) => Ok(job),
+            Err(_) => Err(NoMemory),
+        }
+    }
+
+    /// The job that a checkpoint says, which was written with the same settings, by a job or by the program, in version 3 or an older one.
+    ///
+    /// # Errors
+    ///
+    /// What is wrong first with the checkpoint. `NoMemory` where memory runs out.
+    pub fn resume(
+        alloc: Global,
+        settings: &Settings,
+        octets: &[u8],
+    ) -> Result<FedJob, CheckpointFault>
+        ensures ok { IfOk result (λ job. GoesOnFrom (resumed settings.now octets.now) job) }
+        ensures refused { IfErr result (λ found. found ≢ CheckpointFault.NoMemory
+            → resumed settings.now octets.now ≡ Err found) }
+    {
+        let (reassembly, tracker) = match read_checkpoint(alloc, settings, octets) {
+            Ok(read) => read,
+            Err(fault) => return Err(fault),
+        };
+        match FedJob::with(alloc, reassembly, tracker) {
+            Ok(job) => Ok(job),
+            Err(_) => Err(CheckpointFault::NoMemory),
+        }
+    }
+
+    /// Takes the octets that follow those that earlier calls took, record by record. It gives their events and the octets of their packets,
+    /// each in a room from its beginning on. It takes all octets, or stops before a record for whose events a room may be too small. A room of
+    /// 1,170 events and one of `max_packet` + 2,041 octets hold those of any record.
+    pub fn feed(&mut self, octets: &[u8], events: &mut [Event], packets: &mut [u8]) -> Fed
+        ensures fed { self.old.end ≡ EndProgress.Open
+            → IsFed self.old self.new (take result.used octets.now) result events.new packets.new }
+        ensures within { result.used ≤ length octets.now }
+        ensures stopped { IsStopped self.old self.new (length octets.now) result (length events.new) (length packets.new) }
+    {
+        let EndProgress::Open = self.end else {
+            return Fed {
+                used: 0,
+                events: 0,
+                octets: 0,
+                stop: StopReason::Closed,
+            };
+        };
+        let mut sink = EventSink {
+            tracker: &mut self.tracker,
+            only: &self.only,
+            events,
+            filled: 0,
+            octets: packets,
+            used: 0,
+        };
+        let (used, stop) = add_octets(&mut self.reassembly, &mut self.part, octets, &mut sink);
+        Fed {
+            used,
+            events: sink.filled,
+            octets: sink.used,
+            stop,
+        }
+    }
+
+    /// Closes the recording, and gives what is left then. That is the short record, if octets of one are there, and the tails that are held. Then
+    /// come the groups that are open, by rising key. Where the room is too small for all of them the next call goes on. Before any of it a
+    /// room of 1,170 events is wanted. Answers how many events it gave, and `Done` where all are given.
+    pub fn end(&mut self, events: &mut [Event]) -> (usize, StopReason)
+        ensures gave { GivesEnd self.old self.new result.0 events.new }
+        ensures stopped { EndedBy self.old self.new result.0 (length events.new) result.1 }
+    {
+        let (start, from) = match self.end {
+            EndProgress::Told => return (0, StopReason::Done),
+            EndProgress::Groups(key) => (0, key),
+            EndProgress::Open if events.len() < EVENTS_MOST => return (0, StopReason::Room),
+            EndProgress::Open => {
+                let rest = self.part.len();
+                let tracker = &mut self.tracker;
+                let given = give_closing(&self.reassembly, tracker, &self.only, rest, events);
+                (given, 0)
+            }
+        };
+        let seen = self.reassembly.records();
+        let (filled, left) = give_groups(&self.tracker, seen, from, events, start);
+        match left {
+            Some(key) => {
+                self.end = EndProgress::Groups(key);
+                (filled, StopReason::Room)
+            }
+            None => {
+                self.end = EndProgress::Told;
+                (filled, StopReason::Done)
+            }
+        }
+    }
+
+    /// The job in octets, as a checkpoint of the program has it. The part of a record that isn't whole is left out. So a job that goes on from
+    /// the checkpoint is fed from the octets after the whole records on.
+    ///
+    /// # Errors
+    ///
+    /// `NoMemory` where there is no room for them.
+    pub fn checkpoint(&self, alloc: Global) -> Result<Vec<u8>, NoMemory>
+        ensures { IfOk result (λ octets. octets.items ≡ checkpoint_of self.now.work) }
+    {
+        write_checkpoint(alloc, &self.reassembly, &self.tracker)
+    }
+
+    /// How many octets a record has, those that are skipped among them: at most 4,096.
+    pub fn record_length(&self) -> usize
+        ensures value { result ≡ record_size self.now.work }
+        ensures most { result ≤ 4096 }
+    {
+        self.reassembly.layout().record_length()
+    }
+
+    /// How many records are done.
+    pub fn records(&self) -> u32
+        ensures { result ≡ self.now.work.state.records }
+    {
+        self.reassembly.records()
+    }
+}

@@ -1,0 +1,12 @@
+//! A job that is fed with the octets of a recording, and gives events.
+#![tactic(auto)]
+
+mod ending;
+mod event;
+mod job;
+pub mod laws;
+mod sink;
+mod taking;
+
+pub use event::Event;
+pub use job::{EndProgress, Fed, FedJob, StopReason};

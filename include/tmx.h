@@ -3,8 +3,10 @@
    docs/LIBRARY.md is the guide, with a whole program. Link with -ltmx: libtmx.a or libtmx.so. Of the system it needs malloc, realloc and free
    and functions of <string.h>, no file and no thread.
 
-   It keeps nothing between two calls: what the next call has to know stands in a checkpoint, octets that the caller keeps. So calls may be
-   made from several threads at once, each with rooms of its own, and a call that failed can be made again: it changed only rooms and answer.
+   There are two ways. tmx_run keeps nothing between two calls: what the next call has to know stands in a checkpoint, octets that the caller
+   keeps. So calls may be made from several threads at once, each with rooms of its own, and a call that failed can be made again: it changed
+   only rooms and answer. A struct tmx_job keeps what the next call has to know, and takes octets as they come. It gives events: each says one
+   thing in numbers.
 
    A thread that calls needs 3 MiB of stack. Ordinary settings take less than a tenth of that, those that are nested as deep as TOML is read
    most of it. */
@@ -47,7 +49,10 @@ enum tmx_status {
     TMX_DEFINITION = 7,  /* the definition of fields is refused: fault is an enum tmx_definition_fault, column or row what it is about */
     TMX_APPLICATION = 8, /* the application is none: they have numbers up to 2047 */
     TMX_WHOLE = 9,       /* the summary was asked of a part: it takes the whole recording in one call */
-    TMX_LONG = 10        /* the settings, the definition or the checkpoint has over TMX_INPUT_MOST octets: fault is an enum tmx_input */
+    TMX_LONG = 10,       /* the settings, the definition or the checkpoint has over TMX_INPUT_MOST octets: fault is an enum tmx_input */
+    TMX_MORE = 11,       /* a job stopped where a room may be too small for what comes next: call again, with rooms that are empty */
+    TMX_CLOSED = 12,     /* the end of the recording was told: the job takes no more octets */
+    TMX_JOB = 13         /* there is no job: it is NULL */
 };
 
 /* What a status says, in a few words of English; never NULL. */
@@ -168,6 +173,133 @@ struct tmx_answer {
    goes into another room than the old one. */
 uint32_t tmx_run(const struct tmx_request *request, uint8_t *out, size_t out_room, uint8_t *report, size_t report_room, uint8_t *checkpoint,
                  size_t checkpoint_room, struct tmx_answer *answer);
+
+/* ---- jobs */
+
+/* A job: how far a recording was read. Only the library knows what is in it. It belongs to one thread: the one that opened it. */
+typedef struct tmx_job tmx_job;
+
+/* Why a job isn't opened: as the first numbers of struct tmx_answer. */
+struct tmx_error {
+    uint32_t status; /* an enum tmx_status */
+    uint32_t fault;
+    uint32_t key;
+    uint32_t column; /* 0 */
+    uint32_t row;    /* 0 */
+};
+
+/* What an event tells. In brackets are the numbers that it has besides `size`, `seen` and `kind`; all others are 0. */
+enum tmx_event_kind {
+    TMX_EVENT_PACKET = 1,       /* a whole packet (from, octets, at, place, application, count, channel, flags, telecommand, secondary) */
+    TMX_EVENT_BAD = 2,          /* a bad frame (why: an enum tmx_bad) */
+    TMX_EVENT_MASTER_GAP = 3,   /* frames of any channels are missing before this record (expected, found, missing) */
+    TMX_EVENT_GAP = 4,          /* frames of the channel are missing before this record (channel, expected, found, missing) */
+    TMX_EVENT_VCA = 5,          /* a frame that has no packets (channel) */
+    TMX_EVENT_DROP = 6,         /* octets of packets are dropped (from, octets, place, channel, why: an enum tmx_drop) */
+    TMX_EVENT_SHORT = 7,        /* at the end octets are left that are no whole record (octets) */
+    TMX_EVENT_SEQUENCE_GAP = 8, /* packets of the application are missing (channel, application, expected, found, missing) */
+    TMX_EVENT_BROKEN = 9,       /* a group lacks a segment: its first count and last one (channel, application, expected, found, why: an enum tmx_broken) */
+    TMX_EVENT_GROUP = 10,       /* a whole group: its first count and its last (channel, application, expected, found) */
+    TMX_EVENT_STRAY = 11        /* a segment of no group (channel, application, count, flags) */
+};
+
+/* What is wrong with a frame. */
+enum tmx_bad {
+    TMX_BAD_CRC = 1,
+    TMX_BAD_VERSION = 2,
+    TMX_BAD_SPACECRAFT = 3,
+    TMX_BAD_SECONDARY_FLAG = 4,
+    TMX_BAD_OCF_FLAG = 5,
+    TMX_BAD_SECONDARY_VERSION = 6,
+    TMX_BAD_LAYOUT = 7,
+    TMX_BAD_POINTER = 8
+};
+
+/* Why octets are dropped (docs/RUNS.md). */
+enum tmx_drop {
+    TMX_DROP_POINTER = 1,
+    TMX_DROP_GAP = 2,
+    TMX_DROP_VCA = 3,
+    TMX_DROP_END = 4,
+    TMX_DROP_NO_START = 5,
+    TMX_DROP_VERSION = 6,
+    TMX_DROP_LENGTH = 7
+};
+
+/* Why a group is broken. */
+enum tmx_broken {
+    TMX_BROKEN_GAP = 1,
+    TMX_BROKEN_FIRST = 2,
+    TMX_BROKEN_UNSEGMENTED = 3,
+    TMX_BROKEN_END = 4
+};
+
+/* One event. Records are counted from 0. */
+struct tmx_event {
+    uint32_t size;        /* sizeof(struct tmx_event), 48 */
+    uint32_t seen;        /* the record at which it is given */
+    uint32_t from;        /* the record in which a packet or a dropped part begins */
+    uint32_t octets;      /* how many octets a packet, a dropped part or a short record has */
+    uint64_t at;          /* where the packet's octets begin in the room of octets */
+    uint16_t place;       /* the place in the data field of `from` at which a packet or a dropped part begins */
+    uint16_t application; /* 0 to 2047 */
+    uint16_t count;       /* the sequence count of a packet or of a stray */
+    uint16_t expected;    /* the count that a gap expected; a group's first count */
+    uint16_t found;       /* the count that a gap has; a group's last count */
+    uint16_t missing;     /* how many counts a gap lacks */
+    uint8_t kind;         /* an enum tmx_event_kind */
+    uint8_t channel;      /* the virtual channel, 0 to 7 */
+    uint8_t flags;        /* the sequence flags as a packet's header has them: 0 continuation, 1 first, 2 last, 3 unsegmented */
+    uint8_t telecommand;  /* 1 where a packet is a telecommand */
+    uint8_t secondary;    /* 1 where a packet has a secondary header */
+    uint8_t why;          /* the number of the reason */
+};
+
+/* A call of a job always goes on in a room of so many events, and of so many octets: these are the most that one record gives. Where the
+   settings have a `max_packet`, so many octets and 2041 more are enough. */
+enum { TMX_EVENTS_MOST = 1170, TMX_OCTETS_MOST = 67583 };
+
+/* Room for what a call gives. Each call fills both from the beginning. */
+struct tmx_room {
+    struct tmx_event *events;
+    size_t events_room; /* so many events */
+    uint8_t *octets;    /* the octets of packets; tmx_job_end takes none */
+    size_t octets_room; /* so many octets */
+};
+
+/* What a call did. */
+struct tmx_progress {
+    uint32_t status;  /* an enum tmx_status */
+    uint32_t records; /* the records that are done in all */
+    size_t used;      /* so many octets were taken */
+    size_t events;    /* so many events were given */
+    size_t octets;    /* so many octets of packets were given */
+};
+
+/* Opens a job at the beginning of a recording, or where a checkpoint was written, by the program or by the library. Returns the status. Only
+   with TMX_DONE `*job` is written. Settings, and a checkpoint, are as in struct tmx_request, and refused as tmx_run refuses them. */
+uint32_t tmx_job_new(tmx_job **job, const uint8_t *settings, size_t length, struct tmx_error *error);
+uint32_t tmx_job_resume(tmx_job **job, const uint8_t *settings, size_t length, const uint8_t *checkpoint, size_t length2, struct tmx_error *error);
+
+/* Takes the next octets of the recording, cut anywhere: the job keeps the part of a record that isn't whole. Returns the status. With TMX_DONE
+   all octets are taken. With TMX_MORE `used` of them are: read both rooms, and hand in the others again. With TMX_TOO_MANY 4294967295 records
+   are done. It takes no memory. */
+uint32_t tmx_job_feed(tmx_job *job, const uint8_t *octets, size_t length, struct tmx_room *room, struct tmx_progress *progress);
+
+/* Tells the end of the recording: what is unfinished. With TMX_DONE all is told; with TMX_MORE read the room, and call again. The first call
+   needs room for TMX_EVENTS_MOST events; in less it does nothing. After it the job takes no more octets. It takes no memory. */
+uint32_t tmx_job_end(tmx_job *job, struct tmx_room *room, struct tmx_progress *progress);
+
+/* Writes the checkpoint of the whole records that are done, if the room is large enough, and always its length, which is 0 where there is no
+   job or memory ran out. The status is TMX_ROOM where the room is too small. What the job keeps of a record that isn't whole is no part of it. */
+uint32_t tmx_job_checkpoint(const tmx_job *job, uint8_t *to, size_t room, size_t *length);
+
+/* How many octets each record has, and how many records are done: 0 of NULL. */
+uint32_t tmx_job_record_length(const tmx_job *job);
+uint32_t tmx_job_records(const tmx_job *job);
+
+/* Frees the job, or does nothing with NULL. */
+void tmx_job_free(tmx_job *job);
 
 #ifdef __cplusplus
 }

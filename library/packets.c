@@ -1,26 +1,30 @@
 /* SETTINGS RECORDING: the application and the length of each packet. */
-#include "job.h"
+#include "tmx.h"
 #include <stdio.h>
 
+static int failed(uint32_t status) {
+    fprintf(stderr, "%s\n", tmx_status_text(status));
+    return 1;
+}
+
 int main(int argc, char **argv) {
-    static uint8_t text[1 << 20], chunk[1 << 20];
+    static uint8_t text[1 << 20], chunk[1 << 16], packets[TMX_OCTETS_MOST];
+    static struct tmx_event events[TMX_EVENTS_MOST];
+    struct tmx_room room = {events, TMX_EVENTS_MOST, packets, sizeof packets};
     FILE *settings = argc == 3 ? fopen(argv[1], "rb") : NULL, *recording = argc == 3 ? fopen(argv[2], "rb") : NULL;
-    struct job job = {.request = {.command = TMX_BINARY_PACKETS}};
+    struct tmx_progress did;
+    struct tmx_error error;
+    tmx_job *job;
     size_t read;
     if (settings == NULL || recording == NULL) return 2;
-    job.request.settings = (struct tmx_octets){text, fread(text, 1, sizeof text, settings)};
-    do {
-        read = fread(chunk, 1, sizeof chunk, recording);
-        if (job_feed(&job, chunk, read, read < sizeof chunk) != TMX_DONE) {
-            fprintf(stderr, "%s\n", tmx_status_text(job.answer.status));
-            return 1;
+    if (tmx_job_new(&job, text, fread(text, 1, sizeof text, settings), &error) != TMX_DONE) return failed(error.status);
+    while ((read = fread(chunk, 1, sizeof chunk, recording)) != 0)
+        for (size_t at = 0; at < read; at += did.used) {
+            uint32_t status = tmx_job_feed(job, chunk + at, read - at, &room, &did);
+            if (status != TMX_DONE && status != TMX_MORE) return failed(status);
+            for (size_t k = 0; k < did.events; k++)
+                if (events[k].kind == TMX_EVENT_PACKET) printf("apid=%u octets=%u\n", events[k].application, events[k].octets);
         }
-        for (size_t at = 0, octets; at < job.answer.out_length; at += 16 + octets) {
-            const uint8_t *packet = job.out.at + at + 16; /* after 16 octets that say where it was found */
-            octets = (packet[4] << 8 | packet[5]) + 7u;
-            printf("apid=%u octets=%zu\n", (packet[0] & 7u) << 8 | packet[1], octets);
-        }
-    } while (read == sizeof chunk);
-    job_free(&job);
+    tmx_job_free(job);
     return 0;
 }

@@ -6,9 +6,11 @@
                                              each octet, texts one octet too long, two wrong ones at once, numbers that stand for nothing
    library many TIMES SETTINGS RECORDING     so often two calls over a chunk of one octet: no memory may stay behind
    library names 0 SETTINGS RECORDING        what the header promises of versions, texts of statuses, and NULL with a length of 0
+   library jobs 0 SETTINGS RECORDING         jobs that are refused, NULL, without room, and closed
    library stack OCTETS SETTINGS RECORDING   how much of a stack of so many octets the calls take, each command with a definition of 1000 rows and
                                              the longest checkpoint
    library speed SIZE SETTINGS RECORDING     how long a call takes by `extract`, in chunks of so many octets: the least of 20 rounds
+   library fed SIZE SETTINGS RECORDING       likewise of a job of the library, which gives the packets with all their numbers
    library rows TIMES SETTINGS RECORDING     how long a call over no octets takes by `extract`, and by `fields` with 1000 rows: the least */
 #include "job.h"
 #include <malloc.h>
@@ -302,11 +304,11 @@ static void without_octets(const char *what, struct tmx_octets settings, uint32_
 
 static int names(struct octets settings) {
     if (tmx_version() != TMX_VERSION_NUMBER) printf("the library is of version %u\n", tmx_version());
-    for (uint32_t status = 0; status <= TMX_LONG + 1; status++) {
+    for (uint32_t status = 0; status <= TMX_JOB + 1; status++) {
         const char *text = tmx_status_text(status);
         if (text == NULL || *text == 0 || (status != 0 && strcmp(text, tmx_status_text(status - 1)) == 0)) printf("status %u has no text of its own\n", status);
     }
-    if (strcmp(tmx_status_text(UINT32_MAX), tmx_status_text(TMX_LONG + 1)) != 0) puts("the greatest number is a status");
+    if (strcmp(tmx_status_text(UINT32_MAX), tmx_status_text(TMX_JOB + 1)) != 0) puts("the greatest number is a status");
     for (uint32_t command = TMX_EXTRACT; command <= TMX_BINARY_FIELDS + 1; command++) {
         for (uint32_t last = 0; last < 2; last++) {
             without_octets("command", lent(settings), command, last);
@@ -426,6 +428,83 @@ static int speed(struct octets settings, struct octets recording, size_t size) {
     return 0;
 }
 
+/* A call answered another status, or did something where it does nothing. */
+static void answered(const char *what, uint32_t status, uint32_t wanted, struct tmx_progress did, size_t used, size_t events) {
+    if (status != wanted || did.status != wanted) printf("%s: status %u and %u, not %u\n", what, status, did.status, wanted);
+    if (did.used != used || did.events != events || did.octets != 0) printf("%s: %zu octets used, %zu events, %zu octets\n", what, did.used, did.events, did.octets);
+}
+
+static int jobs(struct octets settings, struct octets recording) {
+    static const uint8_t wrong[40] = "no checkpoint";
+    static struct tmx_event events[TMX_EVENTS_MOST];
+    static uint8_t packets[TMX_OCTETS_MOST], kept[TMX_CHECKPOINT_MOST], longest[TMX_INPUT_MOST + 1];
+    struct tmx_room room = {events, TMX_EVENTS_MOST, packets, sizeof packets}, none_at_all = {NULL, 0, NULL, 0};
+    struct tmx_progress did;
+    struct tmx_error error;
+    tmx_job *job = NULL;
+    size_t length = 0, record;
+    if (tmx_job_new(&job, NULL, 0, &error) != TMX_SETTINGS || error.fault != TMX_SETTINGS_MISSING || job != NULL) puts("no settings");
+    if (tmx_job_resume(&job, settings.at, settings.length, wrong, sizeof wrong, &error) != TMX_CHECKPOINT || error.fault != TMX_CHECKPOINT_MAGIC || job != NULL)
+        puts("a wrong checkpoint");
+    if (tmx_job_resume(&job, settings.at, settings.length, NULL, 0, &error) != TMX_CHECKPOINT || error.fault != TMX_CHECKPOINT_SHORT) puts("no checkpoint");
+    if (tmx_job_new(&job, longest, sizeof longest, &error) != TMX_LONG || error.fault != TMX_INPUT_SETTINGS) puts("settings that are too long");
+    if (tmx_job_resume(&job, settings.at, settings.length, longest, sizeof longest, &error) != TMX_LONG || error.fault != TMX_INPUT_CHECKPOINT || job != NULL)
+        puts("a checkpoint that is too long");
+    answered("feed without a job", tmx_job_feed(NULL, recording.at, 1, &room, &did), TMX_JOB, did, 0, 0);
+    answered("end without a job", tmx_job_end(NULL, &room, &did), TMX_JOB, did, 0, 0);
+    if (tmx_job_checkpoint(NULL, kept, sizeof kept, &length) != TMX_JOB || length != 0 || tmx_job_records(NULL) + tmx_job_record_length(NULL) != 0) puts("no job");
+    tmx_job_free(NULL);
+    if (tmx_job_new(&job, settings.at, settings.length, &error) != TMX_DONE) return 6;
+    record = tmx_job_record_length(job);
+    answered("nothing", tmx_job_feed(job, NULL, 0, &none_at_all, &did), TMX_DONE, did, 0, 0);
+    answered("a part of a record, without room", tmx_job_feed(job, recording.at, record - 1, &none_at_all, &did), TMX_DONE, did, record - 1, 0);
+    answered("the rest of it, without room", tmx_job_feed(job, recording.at + record - 1, 1, &none_at_all, &did), TMX_MORE, did, 0, 0);
+    room.events_room--;
+    answered("the rest of it, with one event too few", tmx_job_feed(job, recording.at + record - 1, 1, &room, &did), TMX_MORE, did, 0, 0);
+    answered("the end, with one event too few", tmx_job_end(job, &room, &did), TMX_MORE, did, 0, 0);
+    room.events_room++;
+    if (tmx_job_checkpoint(job, NULL, 0, &length) != TMX_ROOM || tmx_job_checkpoint(job, kept, length - 1, &length) != TMX_ROOM
+        || tmx_job_checkpoint(job, kept, length, &length) != TMX_DONE || tmx_job_records(job) != 0) puts("a checkpoint");
+    if (tmx_job_end(job, &room, &did) != TMX_DONE || did.events != 1 || events[0].kind != TMX_EVENT_SHORT || events[0].octets != record - 1) puts("the end");
+    answered("the end once more", tmx_job_end(job, &none_at_all, &did), TMX_DONE, did, 0, 0);
+    answered("octets after the end", tmx_job_feed(job, recording.at, record, &room, &did), TMX_CLOSED, did, 0, 0);
+    tmx_job_free(job);
+    return 0;
+}
+
+/* Feeds a job with the recording in chunks, and answers the seconds of all. */
+static double feed_once(struct octets settings, struct octets recording, size_t size, struct tmx_room *room, size_t *calls) {
+    struct timespec begin, end;
+    struct tmx_progress did;
+    struct tmx_error error;
+    tmx_job *job;
+    if (tmx_job_new(&job, settings.at, settings.length, &error) != TMX_DONE) exit(7);
+    clock_gettime(CLOCK_MONOTONIC, &begin);
+    for (size_t at = 0, length; at < recording.length; at += did.used, ++*calls) {
+        length = recording.length - at < size ? recording.length - at : size;
+        if (tmx_job_feed(job, recording.at + at, length, room, &did) != TMX_DONE && did.status != TMX_MORE) exit(7);
+    }
+    clock_gettime(CLOCK_MONOTONIC, &end);
+    tmx_job_free(job);
+    return (double)(end.tv_sec - begin.tv_sec) + 1e-9 * (double)(end.tv_nsec - begin.tv_nsec);
+}
+
+static int fed(struct octets settings, struct octets recording, size_t size) {
+    static struct tmx_event events[65536];
+    static uint8_t packets[1 << 21];
+    struct tmx_room room = {events, 65536, packets, sizeof packets};
+    double least = 1e9;
+    size_t calls = 0;
+    for (int k = 0; k < 20; k++) {
+        double seconds;
+        calls = 0;
+        seconds = feed_once(settings, recording, size, &room, &calls);
+        if (seconds < least) least = seconds;
+    }
+    printf("%zu calls of %zu octets: %.2f microseconds a call, %.0f MB/s\n", calls, size, 1e6 * least / (double)calls, 1e-6 * (double)recording.length / least);
+    return 0;
+}
+
 int main(int argc, char **argv) {
     struct octets settings, recording;
     int status = 2;
@@ -438,6 +517,8 @@ int main(int argc, char **argv) {
     if (strcmp(argv[1], "many") == 0) status = many(settings, recording, atol(argv[2]));
     if (strcmp(argv[1], "names") == 0) status = names(settings);
     if (strcmp(argv[1], "stack") == 0) status = stack(settings, recording, (size_t)atol(argv[2]));
+    if (strcmp(argv[1], "jobs") == 0) status = jobs(settings, recording);
+    if (strcmp(argv[1], "fed") == 0) status = fed(settings, recording, (size_t)atol(argv[2]));
     if (strcmp(argv[1], "rows") == 0) status = rows(settings, atol(argv[2]));
     if (strcmp(argv[1], "speed") == 0) status = speed(settings, recording, (size_t)atol(argv[2]));
     free(settings.at);

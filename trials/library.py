@@ -1,6 +1,6 @@
 #!/usr/bin/env python3
 """The library libtmx beside the program: random recordings in random chunks give just what one run of the program gives, and each call's number
-`strict` is what its frames and its report tell.
+`strict` is what its frames and its report tell. Jobs are fed in random pieces, into random rooms, and their events say the program's lines.
 
     library.py TMX LIBRARY ROUNDS
 
@@ -126,14 +126,184 @@ def checkpoints(program, run, example):
         yield "the library's checkpoint is not the program's"
 
 
+# ---- the job
+
+class Event(ctypes.Structure):
+    """struct tmx_event."""
+
+    _fields_ = [
+        *((name, ctypes.c_uint32) for name in ("size", "seen", "from_", "octets")),
+        ("at", ctypes.c_uint64),
+        *((name, ctypes.c_uint16) for name in ("place", "application", "count", "expected", "found", "missing")),
+        *((name, ctypes.c_uint8) for name in ("kind", "channel", "flags", "telecommand", "secondary", "why")),
+    ]
+
+
+class Room(ctypes.Structure):
+    """struct tmx_room."""
+
+    _fields_ = [("events", ctypes.c_void_p), ("events_room", ctypes.c_size_t), ("octets", ctypes.c_void_p), ("octets_room", ctypes.c_size_t)]
+
+
+class Progress(ctypes.Structure):
+    """struct tmx_progress."""
+
+    _fields_ = [("status", ctypes.c_uint32), ("records", ctypes.c_uint32), *((name, ctypes.c_size_t) for name in ("used", "events", "octets"))]
+
+
+EVENTS_MOST, FIELD_MOST = 1170, 2041
+FLAGS = ("continuation", "first", "last", "unsegmented")
+FAULTS = ("crc", "version", "spacecraft", "secondary-flag", "ocf-flag", "secondary-version", "layout", "pointer")
+REASONS = ("pointer", "gap", "vca", "end", "no-start", "version", "length")
+WHYS = ("gap", "first", "unsegmented", "end")
+LINES = {
+    1: "packet record={seen} channel={channel} from={from_} at={place} type={type} secondary={has} apid={application} flags={flag} count={count} octets={octets}",
+    2: "bad record={seen} fault={fault}",
+    3: "mastergap record={seen} expected={expected} found={found} missing={missing}",
+    4: "gap record={seen} channel={channel} expected={expected} found={found} missing={missing}",
+    5: "vca record={seen} channel={channel}",
+    6: "drop record={seen} channel={channel} from={from_} at={place} octets={octets} reason={reason}",
+    7: "short record={seen} octets={octets}",
+    8: "seqgap record={seen} channel={channel} apid={application} expected={expected} found={found} missing={missing}",
+    9: "broken record={seen} channel={channel} apid={application} first={expected} last={found} reason={end}",
+    10: "group record={seen} channel={channel} apid={application} first={expected} last={found}",
+    11: "stray record={seen} channel={channel} apid={application} count={count} flag={flag}",
+}
+
+
+def line_of(event):
+    """The program's line for an event."""
+    numbers = {name: getattr(event, name) for name, _ in Event._fields_}
+    words = {"type": "tc" if event.telecommand else "tm", "has": "yes" if event.secondary else "no", "flag": FLAGS[event.flags]}
+    for name, list_of in (("fault", FAULTS), ("reason", REASONS), ("end", WHYS)):
+        words[name] = list_of[event.why - 1] if 0 < event.why <= len(list_of) else "none"
+    return LINES[event.kind].format(**numbers, **words).encode() + b"\n"
+
+
+class Job:
+    """A job of the library, whose rooms are as large as they are asked for."""
+
+    def __init__(self, library, settings, checkpoint=None):
+        self.library, self.job, self.packets, self.octets, self.report = library, ctypes.c_void_p(), [], [], []
+        error = (ctypes.c_uint32 * 64)()
+        words = [settings, ctypes.c_size_t(len(settings))]
+        if checkpoint is None:
+            status = library.tmx_job_new(ctypes.byref(self.job), *words, error)
+        else:
+            status = library.tmx_job_resume(ctypes.byref(self.job), *words, checkpoint, ctypes.c_size_t(len(checkpoint)), error)
+        if status != engine.DONE:
+            raise ValueError(f"status {status} fault {error[1]} key {error[2]}")
+
+    def take(self, call, events_room, octets_room, *words):
+        """One call: what it gave goes to the lines."""
+        events, octets, did = (Event * events_room)(), ctypes.create_string_buffer(octets_room), Progress()
+        room = Room(ctypes.addressof(events), events_room, ctypes.addressof(octets), octets_room)
+        status = call(self.job, *words, ctypes.byref(room), ctypes.byref(did))
+        for event in events[: did.events]:
+            (self.packets if event.kind == 1 else self.report).append(line_of(event))
+            if event.kind == 1:
+                self.octets.append(octets.raw[event.at : event.at + event.octets])
+        if b"".join(self.octets[len(self.octets) - sum(it.kind == 1 for it in events[: did.events]) :]) != octets.raw[: did.octets]:
+            raise ValueError("octets that no packet has")
+        return status, did
+
+    def feed(self, octets, events_room, octets_room):
+        """Feeds all octets, in as many calls as the rooms ask for."""
+        while True:
+            status, did = self.take(self.library.tmx_job_feed, events_room, octets_room, octets, ctypes.c_size_t(len(octets)))
+            if status == engine.DONE and did.used == len(octets):
+                return
+            # Rooms that are large enough for a record always go on.
+            if status != engine.MORE or did.used == 0:
+                raise ValueError(f"status {status}, {did.used} of {len(octets)} octets")
+            octets = octets[did.used :]
+
+    def end(self, events_room):
+        """Closes the recording, in as many calls as the room asks for."""
+        while self.take(self.library.tmx_job_end, events_room, 0)[0] == engine.MORE:
+            pass
+
+    def checkpoint(self):
+        """The job's checkpoint."""
+        length = ctypes.c_size_t()
+        self.library.tmx_job_checkpoint(self.job, None, ctypes.c_size_t(0), ctypes.byref(length))
+        room = ctypes.create_string_buffer(length.value)
+        if self.library.tmx_job_checkpoint(self.job, room, length, ctypes.byref(length)) != engine.DONE:
+            raise ValueError("no checkpoint in just enough room")
+        return room.raw[: length.value]
+
+    def given(self):
+        """What it gave: lines of packets, their octets, and the report."""
+        return b"".join(self.packets), b"".join(self.octets), b"".join(self.report)
+
+    def free(self):
+        """Gives back its memory."""
+        self.library.tmx_job_free(self.job)
+
+
+def job_differences(program, library, seed):
+    """How a job that is fed in random pieces, into random rooms, and stopped and resumed now and then, differs from one run."""
+    chance = random.Random(seed)
+    settings = anything.make_settings(chance, ".")
+    recording = anything.make_recording(chance, seed, settings, ".")
+    size, text = settings.record, pathlib.Path("settings").read_bytes()
+    most = tomllib.loads(text.decode()).get("max_packet", 65542) + FIELD_MOST
+    one = wanted(program, engine.PACKETS, 0), wanted(program, engine.EXTRACT, 0)
+    try:
+        job = Job(library, text)
+    except ValueError as refused:
+        if not isinstance(one[0][0], str):
+            yield f"seed {seed}: {refused}"
+        return
+    given, at = [b"", b"", b""], 0
+    while at < len(recording):
+        piece = recording[at : at + chance.choice([1, size - 1, size, size + 1, 1 + chance.randrange(6 * size), len(recording) // 3 + 1])]
+        job.feed(piece, EVENTS_MOST + chance.choice([0, 1, 5000]), most + chance.choice([0, 1, 100000]))
+        at += len(piece)
+        if chance.randrange(4) == 0:
+            # What is kept of a record is no part of the checkpoint: that is fed again.
+            kept, at = job.checkpoint(), job.library.tmx_job_records(job.job) * size
+            given = [a + b for a, b in zip(given, job.given())]
+            job.free()
+            job = Job(library, text, kept)
+    job.end(EVENTS_MOST + chance.choice([0, 3]))
+    given = [a + b for a, b in zip(given, job.given())]
+    job.free()
+    if [given[0], given[2]] != [*one[0]] or given[1] != one[1][0]:
+        yield f"seed {seed}, a job: {[it[:80] for it in given]}, not {[it[:80] for it in one[0]]}"
+
+
+def job_checkpoints(program, library, example):
+    """How a job's checkpoint differs from the program's, and what a job gives that goes on from the program's."""
+    settings, recording = (example / "settings.toml").read_bytes(), (example / "pass.rec").read_bytes()
+    words = [program, "packets", "--settings", str(example / "settings.toml"), "--report", "report"]
+    subprocess.run([*words, "--checkpoint", "checkpoint", "--stop-after", "100", str(example / "pass.rec")], stdout=subprocess.DEVNULL, check=True)
+    kept, size = pathlib.Path("checkpoint").read_bytes(), len(recording) // 300
+    job = Job(library, settings)
+    job.feed(recording[: 100 * size + 7], EVENTS_MOST, 100000)
+    if job.checkpoint() != kept:
+        yield "a job's checkpoint is not the program's"
+    job.free()
+    rest = subprocess.run([*words[:-2], "--resume", "checkpoint", str(example / "pass.rec")], capture_output=True, check=True)
+    job = Job(library, settings, kept)
+    job.feed(recording[100 * size :], EVENTS_MOST, 100000)
+    job.end(EVENTS_MOST)
+    if (job.given()[0], job.given()[2]) != (rest.stdout, rest.stderr):
+        yield "a job doesn't go on from the program's checkpoint as the program does"
+    job.free()
+
+
 def main(program, library, rounds):
-    run = engine.load_library(library)
+    run, jobs = engine.load_library(library), ctypes.CDLL(library)
+    jobs.tmx_job_records.restype = ctypes.c_uint32
     pathlib.Path("definition").write_bytes(DEFINITION)
     failed = 0
-    print("plan 2", flush=True)
+    print("plan 4", flush=True)
     for name, found in (
         (f"{rounds} random recordings in random chunks give what one run gives", [it for k in range(int(rounds)) for it in differences(program, run, 7000 + k)]),
         ("the library's checkpoint is the program's", [*checkpoints(program, run, HERE.parent / "example")]),
+        (f"jobs over {rounds} random recordings give what one run gives", [it for k in range(int(rounds)) for it in job_differences(program, jobs, 8000 + k)]),
+        ("a job's checkpoint is the program's, and goes on from it", [*job_checkpoints(program, jobs, HERE.parent / "example")]),
     ):
         print(f"FAILED: {name}: {found[:3]}" if found else f"ok {name}", flush=True)
         failed += bool(found)

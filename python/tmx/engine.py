@@ -17,6 +17,8 @@ from .settings import Settings
 # The numbers of include/tmx.h.
 EXTRACT, PACKETS, FIELDS, FRAMES, SUMMARY, BINARY_PACKETS, BINARY_FIELDS = range(7)
 DONE, ROOM, COMMAND, SETTINGS, CHECKPOINT, TOO_MANY, MEMORY, DEFINITION, APPLICATION, WHOLE, LONG = range(11)
+# Those of jobs alone, which an engine isn't.
+MORE, CLOSED, JOB = range(11, 14)
 INPUTS = ("", "settings", "definition", "checkpoint")
 SETTINGS_FAULTS = ("", "toml", "unknown", "missing", "kind", "range")
 CHECKPOINT_FAULTS = ("", "short", "magic", "version", "check", "settings", "state", "trailing")

@@ -90,7 +90,7 @@ library_calls() {
     local flags=(-std=gnu11 -g -O1 -pthread -I "$here/../include" -I "$here/../library") seen=(-fsanitize=address,undefined -fno-sanitize-recover=all) size
     gcc "${flags[@]}" -o calls "$here/library.c" library/libtmx.a 2>made || cat made
     if [ -e calls ] && ! gcc "${flags[@]}" "${seen[@]}" -o calls_seen "$here/library.c" library/libtmx.a 2>made; then
-        skip 7 "calls over memory that is just as large as it is said to be" "no AddressSanitizer"
+        skip 8 "calls over memory that is just as large as it is said to be" "no AddressSanitizer"
     else
         for size in 1115 100000; do
             tell "rooms of just enough octets, in chunks of $size" "$(differs ./calls_seen chunks $size)"
@@ -99,6 +99,7 @@ library_calls() {
             tell "a job of job.h, in chunks of $size" "$(differs ./calls_seen job $size)"
         done
         tell "versions, texts of statuses, and NULL with a length of 0" "$(told ./calls_seen names 0 "$s" "$rec")"
+        tell "jobs that are refused, NULL, without room, and closed" "$(told ./calls_seen jobs 0 "$s" "$rec")"
         tell "hostile calls" "$(./calls_seen hostile 0 "$s" "$rec" 2>&1 | head -c 1000)"
     fi
     printf 'spacecraft = 42\nframe_length = 24\nerror_control = false\nmax_packet = 7\n' >small.toml
@@ -128,12 +129,14 @@ library() {
     # guards: what-is-read-before-the-recording-is-checked-in-the-programs-order
     # guards: a-call-gives-exactly-what-its-chunk-gives
     # guards: tmx_run-answers-in-numbers-what-the-call-gave
-    plan 33
+    # guards: a-job-that-is-fed-gives-just-the-events-of-its-octets
+    # guards: calls-on-a-job-do-what-the-job-does
+    plan 34
     names
     if [ -n "${LIBRARY:-}" ]; then
         cp -r "$LIBRARY" library
     elif ! command -v rt >/dev/null || ! command -v cc >/dev/null; then
-        skip 33 "the library" "no rt, or no C compiler"
+        skip 34 "the library" "no rt, or no C compiler"
         return
     elif ! make_library; then
         no "the library is made: $(tail -n 3 made)"
@@ -146,7 +149,7 @@ library() {
         library_calls
         library_stack
     else
-        skip 31 "the library from C and Rust" "no gcc"
+        skip 32 "the library from C and Rust" "no gcc"
     fi
     part library.py python3 "$here/library.py" "$tmx" "$PWD/library/libtmx.so" "${CHUNKED:-40}"
     part test_engine env "TMX=$tmx" "TMX_LIBRARY=$PWD/library/libtmx.so" python3 "$here/../python/tests/run.py" test_engine

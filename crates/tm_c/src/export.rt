@@ -16,8 +16,8 @@ use tm_library::{
 };
 use tm_tool::{Command, Settings};
 
-// A call that was refused has nothing but the reason.
-fn refused_with(numbers: Numbers) -> TmxAnswer
+/// A call that was refused has nothing but the reason.
+pub fn refused_with(numbers: Numbers) -> TmxAnswer
     ensures { result ≡ refused_with numbers }
 {
     TmxAnswer {

@@ -2,5 +2,6 @@
 #![tactic(auto)]
 
 mod export;
+mod jobs;
 mod numbers;
 mod structs;

@@ -30,6 +30,17 @@ pub struct TmxAnswer {
     pub row_length: u32,
 }
 
+/// How far a job has got in a call.
+#[repr(C)]
+#[derive(Clone, Copy, Debug, PartialEq, Eq)]
+pub struct TmxProgress {
+    pub status: u32,
+    pub records: u32,
+    pub used: usize,
+    pub events: usize,
+    pub octets: usize,
+}
+
 /// A status, and what is wrong: the number of the fault, and the key, the column or the row that it is about. 0 where there is none.
 #[derive(Clone, Copy, Debug, PartialEq, Eq)]
 pub struct Numbers {

@@ -11,8 +11,12 @@ use tm_tool::{CheckpointFault, Job, Settings};
 
 const MOST_OCTETS: usize = 1048576;
 
-// The octets are few enough for this input.
-fn check_length(input: Input, octets: &[u8]) -> Result<(), Refusal>
+/// The octets are few enough for this input.
+///
+/// # Errors
+///
+/// `TooLong` where they are over 1,048,576.
+pub fn check_length(input: Input, octets: &[u8]) -> Result<(), Refusal>
     ensures short { OnOk result (length octets.now ≤ input_limit) }
     ensures long { IfErr result (λ refusal. (refusal ≡ Refusal.TooLong input) × (input_limit < length octets.now)) }
 {

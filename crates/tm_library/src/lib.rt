@@ -11,7 +11,7 @@ mod request;
 mod running;
 mod summary;
 
-pub use inputs::{read_definition, read_settings};
+pub use inputs::{check_length, read_definition, read_settings};
 pub use refusal::{Input, Refusal};
 pub use request::{Answer, Request, Wanted, run_chunk};
 pub use summary::summarize_recording;

@@ -1,0 +1,281 @@
+//! The calls on a job that C keeps by a handle.
+
+ghost use Rattle.std.specs.Prelude.{◌≡◌, ◌≤◌, None, IfOk, IfErr};
+ghost use Rattle.tm_c.specs.Jobs.{IsBegun, IsBeginRefused, IsDoneWith, IsJobEnded, IsJobFed, IsJobKept, IsKept, IsMade, IsMakeRefused, IsOpened, no_progress, opened_with, progress_of, record_length_in, records_of, stop_status};
+
+use crate::export::refused_with;
+use crate::numbers::{refusal_numbers, with_status};
+use crate::structs::{TmxAnswer, TmxProgress};
+use std::alloc::Global;
+use std::mem::replace;
+use tm_feed::{Event, Fed, FedJob, StopReason};
+use tm_handle::Handle;
+use tm_library::{Input, Refusal, check_length, read_settings};
+use tm_tool::Settings;
+
+// The status of a call without a job.
+const NO_JOB: u32 = 13;
+
+// A new job, or where `resume` isn't 0 the one that the checkpoint says.
+fn begin_job(
+    alloc: Global,
+    settings: &Settings,
+    resume: u32,
+    checkpoint: &[u8],
+) -> Result<FedJob, Refusal>
+    ensures ok { IfOk result (IsBegun settings.now resume checkpoint.now) }
+    ensures refused { IfErr result (IsBeginRefused settings.now resume checkpoint.now) }
+{
+    if resume == 0 {
+        return match FedJob::new(alloc, settings) {
+            Ok(job) => Ok(job),
+            Err(_) => Err(Refusal::NoMemory),
+        };
+    }
+    check_length(Input::Checkpoint, checkpoint)?;
+    Ok(FedJob::resume(alloc, settings, checkpoint)?)
+}
+
+// The job by these settings, in a box.
+fn make_job(
+    alloc: Global,
+    settings: &[u8],
+    resume: u32,
+    checkpoint: &[u8],
+) -> Result<Box<FedJob>, Refusal>
+    ensures ok { IfOk result (λ job. IsMade settings.now resume checkpoint.now job.value) }
+    ensures refused { IfErr result (IsMakeRefused settings.now resume checkpoint.now) }
+{
+    let settings = read_settings(alloc, settings)?;
+    let job = begin_job(alloc, &settings, resume, checkpoint)?;
+    match Box::new(alloc, job) {
+        Ok(job) => Ok(job),
+        Err(_) => Err(Refusal::NoMemory),
+    }
+}
+
+// The answer to a job that was opened has the records that are done.
+fn opened_with(records: u32) -> TmxAnswer
+    ensures { result ≡ opened_with records }
+{
+    let mut answer = refused_with(with_status(0, 0));
+    answer.records = records;
+    answer
+}
+
+/// Opens a job. The one that the handle had is freed, unless the call is refused.
+#[unsafe(no_mangle)]
+pub extern "C" fn job_open(
+    alloc: Global,
+    handle: &mut Handle,
+    settings: &[u8],
+    resume: u32,
+    checkpoint: &[u8],
+    answer: &mut TmxAnswer,
+) -> u32
+    ensures opened { IsOpened settings.now resume checkpoint.now handle.old.job handle.new.job answer.new }
+    ensures status { result ≡ answer.new.status }
+{
+    *answer = match make_job(alloc, settings, resume, checkpoint) {
+        Ok(job) => {
+            let records = job.records();
+            *handle = Handle::of(job);
+            opened_with(records)
+        }
+        Err(refusal) => refused_with(refusal_numbers(refusal)),
+    };
+    answer.status
+}
+
+fn stop_status(stop: StopReason) -> u32
+    ensures { result ≡ stop_status stop }
+{
+    match stop {
+        StopReason::Done => 0,
+        StopReason::Room => 11,
+        StopReason::TooMany => 5,
+        StopReason::Closed => 12,
+    }
+}
+
+fn progress_of(fed: Fed, records: u32) -> TmxProgress
+    ensures { result ≡ progress_of fed records }
+{
+    TmxProgress {
+        status: stop_status(fed.stop),
+        records,
+        used: fed.used,
+        events: fed.events,
+        octets: fed.octets,
+    }
+}
+
+fn no_progress() -> TmxProgress
+    ensures { result ≡ no_progress }
+{
+    TmxProgress {
+        status: NO_JOB,
+        records: 0,
+        used: 0,
+        events: 0,
+        octets: 0,
+    }
+}
+
+// Feeds a job.
+fn feed_job(
+    job: &mut FedJob,
+    octets: &[u8],
+    events: &mut [Event],
+    packets: &mut [u8],
+) -> TmxProgress
+    ensures { IsJobFed octets.now events.new packets.new job.old job.new result }
+{
+    let fed = job.feed(octets, events, packets);
+    progress_of(fed, job.records())
+}
+
+/// Feeds the job with the octets that follow those which it took.
+#[unsafe(no_mangle)]
+pub extern "C" fn job_feed(
+    alloc: Global,
+    handle: &mut Handle,
+    octets: &[u8],
+    events: &mut [Event],
+    packets: &mut [u8],
+    progress: &mut TmxProgress,
+) -> u32
+    ensures fed { IsDoneWith (IsJobFed octets.now events.new packets.new) handle.old.job handle.new.job progress.new }
+
+    // The pointer stays as it is, so C may hold it by value.
+    ensures place { handle.new.at ≡ handle.old.at }
+    ensures status { result ≡ progress.new.status }
+{
+    match replace(handle, Handle::empty(alloc)).into_loose() {
+        Some(mut loose) => {
+            *progress = feed_job(loose.as_mut(), octets, events, packets);
+            *handle = Handle::of_loose(loose);
+        }
+        None => *progress = no_progress(),
+    }
+    progress.status
+}
+
+// Tells the end of a job.
+fn end_job(job: &mut FedJob, events: &mut [Event]) -> TmxProgress
+    ensures { IsJobEnded events.new job.old job.new result }
+{
+    let (given, stop) = job.end(events);
+    let fed = Fed {
+        used: 0,
+        events: given,
+        octets: 0,
+        stop,
+    };
+    progress_of(fed, job.records())
+}
+
+/// Tells the end of the recording: what is left, and then the groups that are open.
+#[unsafe(no_mangle)]
+pub extern "C" fn job_end(
+    alloc: Global,
+    handle: &mut Handle,
+    events: &mut [Event],
+    progress: &mut TmxProgress,
+) -> u32
+    ensures ended { IsDoneWith (IsJobEnded events.new) handle.old.job handle.new.job progress.new }
+    ensures place { handle.new.at ≡ handle.old.at }
+    ensures status { result ≡ progress.new.status }
+{
+    match replace(handle, Handle::empty(alloc)).into_loose() {
+        Some(mut loose) => {
+            *progress = end_job(loose.as_mut(), events);
+            *handle = Handle::of_loose(loose);
+        }
+        None => *progress = no_progress(),
+    }
+    progress.status
+}
+
+// Writes the checkpoint of a job into a room, if it is large enough, and tells how many octets it has.
+fn keep_job(alloc: Global, job: &FedJob, room: &mut [u8], length: &mut usize) -> u32
+    ensures { IsJobKept job.now room.new length.new result }
+{
+    let Ok(octets) = job.checkpoint(alloc) else {
+        *length = 0;
+        return 6;
+    };
+    *length = octets.len();
+    if octets.len() > room.len() {
+        return 1;
+    }
+    room[..octets.len()].copy_from_slice(octets.as_slice());
+    0
+}
+
+/// Writes the checkpoint of the job into a room, if it is large enough, and tells how many octets it has.
+#[unsafe(no_mangle)]
+pub extern "C" fn job_checkpoint(
+    alloc: Global,
+    handle: &mut Handle,
+    room: &mut [u8],
+    length: &mut usize,
+) -> u32
+    ensures kept { IsKept handle.old.job room.new length.new result }
+    ensures job { handle.new.job ≡ handle.old.job }
+    ensures place { handle.new.at ≡ handle.old.at }
+{
+    match replace(handle, Handle::empty(alloc)).into_loose() {
+        Some(mut loose) => {
+            let status = keep_job(alloc, loose.as_mut(), room, length);
+            *handle = Handle::of_loose(loose);
+            status
+        }
+        None => {
+            *length = 0;
+            NO_JOB
+        }
+    }
+}
+
+/// How many records of the job are done.
+#[unsafe(no_mangle)]
+pub extern "C" fn job_records(alloc: Global, handle: &mut Handle) -> u32
+    ensures records { result ≡ records_of handle.old.job }
+    ensures job { handle.new.job ≡ handle.old.job }
+    ensures place { handle.new.at ≡ handle.old.at }
+{
+    match replace(handle, Handle::empty(alloc)).into_loose() {
+        Some(mut loose) => {
+            let records = loose.as_mut().records();
+            *handle = Handle::of_loose(loose);
+            records
+        }
+        None => 0,
+    }
+}
+
+/// How many octets each record of the job has.
+#[unsafe(no_mangle)]
+pub extern "C" fn job_record_length(alloc: Global, handle: &mut Handle) -> u32
+    ensures length { result ≡ record_length_in handle.old.job }
+    ensures job { handle.new.job ≡ handle.old.job }
+    ensures place { handle.new.at ≡ handle.old.at }
+{
+    match replace(handle, Handle::empty(alloc)).into_loose() {
+        Some(mut loose) => {
+            let length = loose.as_mut().record_length() as u32;
+            *handle = Handle::of_loose(loose);
+            length
+        }
+        None => 0,
+    }
+}
+
+/// Frees the job.
+#[unsafe(no_mangle)]
+pub extern "C" fn job_close(alloc: Global, handle: &mut Handle)
+    ensures { handle.new.job ≡ None }
+{
+    *handle = Handle::empty(alloc);
+}

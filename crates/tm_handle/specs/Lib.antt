@@ -1,0 +1,2 @@
+pub mod LooseBox
+pub mod Owned

@@ -22,6 +22,9 @@ TIMES = 5
 LIMITS = range(2000, 9000, 4)  # KiB
 ENOUGH = 25  # so many limits behind one another
 
+# How a run ends that didn't begin: the program isn't found or loaded, or it is killed.
+UNBEGUN = (126, 127, -9, -11)
+
 # The C library asks for no more than it needs, so that each limit has its own place.
 FEW = {**os.environ, "MALLOC_TOP_PAD_": "0"}
 
@@ -58,6 +61,8 @@ def main(tmx, settings, recording):
     Path("repeated").write_bytes(octets)
     packets = reference.read_recording(reference.Settings(settings), octets)[0].packets
     whole, out_of_memory, enough = sum(len(it[1]) for it in packets), [], 0
+    # A program that rt hasn't built needs more of the stack, which can't grow in little memory.
+    passed_over = () if b"rattle logic=" in Path(tmx).read_bytes() else (-11,)
     words = [tmx, "split", "--settings", settings, "--dir", "split", "--report", "report", "repeated"]
     for limit in LIMITS:
         status, line, files = run(words, limit)
@@ -67,7 +72,7 @@ def main(tmx, settings, recording):
         enough = enough + 1 if (status, line, found) == (0, b"", whole) else 0
         if (status, line) == (3, b"tmx: out of memory\n"):
             out_of_memory.append(found)
-        elif not enough and (out_of_memory or status not in (126, 127, -9, -11)):
+        elif not enough and status not in (passed_over if out_of_memory else UNBEGUN):
             return f"{limit} KiB: status {status}, {found} of {whole} octets, {line[:100]!r}"
         if enough == ENOUGH:
             break

@@ -4,3 +4,5 @@ pub mod RoomLemmas
 pub mod FeedLemmas
 pub mod EndLemmas
 pub mod CallLemmas
+pub mod OnlyLemmas
+pub mod LineLemmas

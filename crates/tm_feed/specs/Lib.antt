@@ -1,7 +1,9 @@
 pub mod Events
+pub mod EventLines
 pub mod Feeding
 pub mod States
 pub mod Jobs
+pub mod Only
 pub mod Endings
 pub mod code
 pub mod Calls

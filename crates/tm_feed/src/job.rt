@@ -49,7 +49,7 @@ pub struct Fed {
     pub stop: StopReason,
 }
 
-ghost use Rattle.std.specs.Prelude.{◌≡◌};
+ghost use Rattle.std.specs.Prelude.{◌≡◌, IfOk, OnErr};
 ghost use Rattle.tm_feed.specs.Jobs.{all_given};
 
 // The packets of all applications are given.
@@ -58,6 +58,28 @@ fn all_given() -> [bool; 2048]
     ensures { result ≡ all_given }
 {
     [true; 2048]
+}
+
+/// There is no application of a number: they have numbers up to 2047.
+#[derive(Clone, Copy, Debug, PartialEq, Eq)]
+pub struct NoApplication;
+
+ghost use Rattle.tm_feed.specs.Only.{AreTheseGiven, IsNoApplication};
+
+// The packets of these applications are given, and of no others.
+fn only_these(applications: &[u16]) -> Result<[bool; 2048], NoApplication>
+    ensures given { IfOk result (AreTheseGiven applications.now) }
+    ensures refused { OnErr result (IsNoApplication applications.now) }
+{
+    let mut only = [false; 2048];
+    for i in 0..applications.len() {
+        let application = usize::from(applications[i]);
+        if application > 2047 {
+            return Err(NoApplication);
+        }
+        only[application] = true;
+    }
+    Ok(only)
 }
 
 /// A job that is fed with the octets of a recording. It keeps the part of a record that isn't whole.
@@ -90,11 +112,12 @@ impl Model for FedJob {
 }
 
 impl FedJob {
-    ghost use Rattle.std.specs.Prelude.{◌≡◌, ◌≢◌, ◌≤◌, Err, length, take, IfOk, IfErr};
+    ghost use Rattle.std.specs.Prelude.{◌≡◌, ◌≢◌, ◌≤◌, Err, length, take, IfOk, IfErr, OnOk, OnErr};
     ghost use Rattle.tm_checkpoint.specs.Works.{IsGoing, new_job, work_of};
     ghost use Rattle.tm_checkpoint.specs.Checkpoints.{checkpoint_of, resumed};
     ghost use Rattle.tm_feed.specs.Endings.{EndedBy, GivesEnd};
     ghost use Rattle.tm_feed.specs.Jobs.{IsFed, GoesOnFrom, IsStopped, new_feed, record_size};
+    ghost use Rattle.tm_feed.specs.Only.{GivesOnly, IsNoApplication};
 
     // With a reassembly and its tracker, and no octets of a further record.
     fn with(alloc: Global, reassembly: Reassembly, tracker: Tracker) -> Result<FedJob, AllocError>
@@ -160,6 +183,19 @@ impl FedJob {
             Ok(job) => Ok(job),
             Err(_) => Err(CheckpointFault::NoMemory),
         }
+    }
+
+    /// From now on gives packets of these applications alone, and the notes of all. Before this call it gives the packets of all.
+    ///
+    /// # Errors
+    ///
+    /// `NoApplication` where a number is over 2047. Then the job is as it was.
+    pub fn give_only(&mut self, applications: &[u16]) -> Result<(), NoApplication>
+        ensures given { OnOk result (GivesOnly applications.now self.old self.new) }
+        ensures refused { OnErr result (IsNoApplication applications.now × (self.new ≡ self.old)) }
+    {
+        self.only = only_these(applications)?;
+        Ok(())
     }
 
     /// Takes the octets that follow those that earlier calls took, record by record. It gives their events and the octets of their packets,

@@ -1,9 +1,18 @@
 //! Laws of the definitions. These functions make no calls: their contracts are the laws.
 
-ghost use Rattle.std.specs.List.{concat};
-ghost use Rattle.std.specs.Prelude.{◌≡◌, ◌+◌, ◌++◌, ℕ, List, ◌∷◌, length};
+ghost use Rattle.std.specs.List.{concat, flat_map};
+ghost use Rattle.std.specs.Prelude.{◌≡◌, ◌+◌, ◌++◌, ℕ, Bool, Some, List, ◌∷◌, length};
+ghost use Rattle.tm_items.specs.Item.{Item};
+ghost use Rattle.tm_output.specs.declared.command.Command.TheVariants.{Extract, Packets};
+ghost use Rattle.tm_lines.specs.Lines.{note_line};
+ghost use Rattle.tm_output.specs.Pieces.{pieces_of, text_of};
+ghost use Rattle.tm_packet.specs.declared.notes.Note.{Note};
+ghost use Rattle.tm_packet.specs.Merge.{Entries};
 ghost use Rattle.tm_feed.specs.Calls.{IsSound, after_calls, events_of_calls, octets_of_calls};
-ghost use Rattle.tm_feed.specs.Jobs.{fed, fed_events, fed_octets};
+ghost use Rattle.tm_feed.specs.EventLines.{event_line, packet_lines, report_lines};
+ghost use Rattle.tm_feed.specs.Events.{note_event};
+ghost use Rattle.tm_feed.specs.Feeding.{events_of};
+ghost use Rattle.tm_feed.specs.Jobs.{all_given, fed, fed_events, fed_octets};
 ghost use Rattle.tm_feed.specs.States.{FeedState};
 
 /// Calls: a job is fed with octets in any pieces, one call after the other. It is left as by one call that takes all of them. The events of all
@@ -16,4 +25,20 @@ pub fn calls()
         events_of_calls at job (first ∷ calls) ≡ fed_events at job (first ++ concat calls) }
     ensures octets { (job : FeedState) (first : List ℕ) (calls : List (List ℕ)) → IsSound job →
         octets_of_calls job (first ∷ calls) ≡ fed_octets job (first ++ concat calls) }
+{}
+
+/// Lines: the events of items say what the program says of them. Those of the packets, if all are given, are the lines of `tmx packets`, in their
+/// order, and the others are the report of `tmx extract`.
+#[tactic(auto, using(crate::proofs::LineLemmas::lines_said))]
+pub fn lines()
+    ensures packets { (at : ℕ) (entries : Entries) (items : List Item) →
+        packet_lines (events_of all_given at entries items)
+        ≡ flat_map (λ piece. piece.out) (pieces_of (text_of Packets) entries items) }
+    ensures report { (only : List Bool) (at : ℕ) (entries : Entries) (items : List Item) →
+        report_lines (events_of only at entries items)
+        ≡ flat_map (λ piece. piece.report) (pieces_of (text_of Extract) entries items) }
+
+    // So do those of the groups that are open at the end.
+    ensures notes { (seen channel application : ℕ) (note : Note) →
+        event_line (note_event seen channel application note) ≡ Some (note_line seen channel application note) }
 {}

@@ -5,8 +5,10 @@ mod ending;
 mod event;
 mod job;
 pub mod laws;
+mod line;
 mod sink;
 mod taking;
 
 pub use event::Event;
-pub use job::{EndProgress, Fed, FedJob, StopReason};
+pub use job::{EndProgress, Fed, FedJob, NoApplication, StopReason};
+pub use line::event_line;

@@ -4,9 +4,9 @@ ghost use Rattle.std.specs.Prelude.{◌≡◌, ◌+◌, ◌≤◌, ◌++◌, cod
 ghost use Rattle.std.specs.Fmt.{decimal};
 ghost use Rattle.tm_lines.specs.Lines.{bad_line, bit_text, drop_line, flags_word, frame_line, gap_line, kind_word, master_gap_line, note_line, packet_line, place_text, short_line, short_packet_line, type_word, vca_line, why_word, yes_or_no};
 
-use crate::{DroppedPart, LineBuffer, Packet};
+use crate::{DroppedPart, LineBuffer, Packet, PacketPlace};
 use tm_frame::{Frame, FrameFault, Kind};
-use tm_packet::{Flags, Note, Why};
+use tm_packet::{Flags, Header, Note, Why};
 
 // The word of what a data field holds.
 #[inline(always)]
@@ -132,16 +132,13 @@ fn format_flags(line: &mut LineBuffer, flags: Flags)
     }
 }
 
-/// The line of a packet.
+/// The line of a packet of so many octets that was found at a place.
 #[inline(always)]
-pub fn format_packet(line: &mut LineBuffer, packet: &Packet<'_>)
-    ensures { line.new
-        ≡ packet_line packet.now.seen packet.now.channel packet.now.first packet.now.place packet.now.header
-        (length packet.now.octets.now) }
+pub fn format_packet_at(line: &mut LineBuffer, place: PacketPlace, header: &Header, octets: usize)
+    ensures { line.new ≡ packet_line place.seen place.channel place.first place.place header.now octets }
 {
-    let header = packet.header;
     line.start();
-    line.prepend_long_number(packet.octets.len() as u64);
+    line.prepend_long_number(octets as u64);
     line.prepend_text(b" octets=");
     line.prepend_number(u32::from(header.count()));
     line.prepend_text(b" count=");
@@ -153,14 +150,30 @@ pub fn format_packet(line: &mut LineBuffer, packet: &Packet<'_>)
     line.prepend_text(b" secondary=");
     line.prepend_text(type_word(header.telecommand()));
     line.prepend_text(b" type=");
-    line.prepend_number(u32::from(packet.place));
+    line.prepend_number(u32::from(place.place));
     line.prepend_text(b" at=");
-    line.prepend_number(packet.first);
+    line.prepend_number(place.first);
     line.prepend_text(b" from=");
-    line.prepend_number(u32::from(packet.channel));
+    line.prepend_number(u32::from(place.channel));
     line.prepend_text(b" channel=");
-    line.prepend_number(packet.seen);
+    line.prepend_number(place.seen);
     line.prepend_text(b"packet record=");
+}
+
+/// The line of a packet.
+#[inline(always)]
+pub fn format_packet(line: &mut LineBuffer, packet: &Packet<'_>)
+    ensures { line.new
+        ≡ packet_line packet.now.seen packet.now.channel packet.now.first packet.now.place packet.now.header
+        (length packet.now.octets.now) }
+{
+    let place = PacketPlace {
+        seen: packet.seen,
+        channel: packet.channel,
+        first: packet.first,
+        place: packet.place,
+    };
+    format_packet_at(line, place, &packet.header, packet.octets.len());
 }
 
 // ---- the report
@@ -185,14 +198,14 @@ pub fn format_gap(
     line: &mut LineBuffer,
     seen: u32,
     channel: u8,
-    expected: u8,
-    found: u8,
-    missing: u8,
+    expected: u16,
+    found: u16,
+    missing: u16,
 )
     ensures { line.new ≡ gap_line seen channel expected found missing }
 {
     line.start();
-    format_counts(line, expected.into(), found.into(), missing.into());
+    format_counts(line, expected, found, missing);
     line.prepend_number(u32::from(channel));
     line.prepend_text(b" channel=");
     line.prepend_number(seen);
@@ -200,11 +213,11 @@ pub fn format_gap(
 }
 
 /// The line of a gap in the counts of the master channel, over the good frames of all channels.
-pub fn format_master_gap(line: &mut LineBuffer, seen: u32, expected: u8, found: u8, missing: u8)
+pub fn format_master_gap(line: &mut LineBuffer, seen: u32, expected: u16, found: u16, missing: u16)
     ensures { line.new ≡ master_gap_line seen expected found missing }
 {
     line.start();
-    format_counts(line, expected.into(), found.into(), missing.into());
+    format_counts(line, expected, found, missing);
     line.prepend_number(seen);
     line.prepend_text(b"mastergap record=");
 }

@@ -12,6 +12,15 @@ pub struct DroppedPart {
     pub reason: Reason,
 }
 
+/// Where a packet was found: as in `Packet`.
+#[derive(Clone, Copy)]
+pub struct PacketPlace {
+    pub seen: u32,
+    pub channel: u8,
+    pub first: u32,
+    pub place: u16,
+}
+
 /// A whole packet of a channel. `seen` is the record that completes it, `first` and `place` are the record in which it begins and its place in that
 /// record's data field.
 #[derive(Drop)]

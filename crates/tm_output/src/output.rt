@@ -102,14 +102,21 @@ fn make_line(line: &mut LineBuffer, item: Item<'_>)
             expected,
             found,
             missing,
-        } => format_master_gap(line, seen, expected, found, missing),
+        } => format_master_gap(line, seen, expected.into(), found.into(), missing.into()),
         Item::Gap {
             seen,
             channel,
             expected,
             found,
             missing,
-        } => format_gap(line, seen, channel, expected, found, missing),
+        } => format_gap(
+            line,
+            seen,
+            channel,
+            expected.into(),
+            found.into(),
+            missing.into(),
+        ),
         Item::Vca { seen, channel } => format_vca(line, seen, channel),
         Item::Dropped {
             seen,

@@ -1,0 +1,133 @@
+//! The line of an event, as the program prints it.
+
+ghost use Rattle.std.specs.Prelude.{◌≡◌};
+ghost use Rattle.tm_feed.specs.EventLines.{event_line, note_told, numbered, packet_told};
+
+use crate::event::{BAD, BROKEN, DROP, Event, GAP, GROUP, MASTER_GAP, PACKET, SEQUENCE_GAP, SHORT, STRAY, VCA};
+use tm_frame::FrameFault;
+use tm_items::Reason;
+use tm_lines::{
+    DroppedPart, LineBuffer, PacketPlace, format_bad, format_drop, format_gap, format_master_gap,
+    format_note, format_packet_at, format_short, format_vca,
+};
+use tm_packet::{Flags, Header, Note, Why};
+
+// As their two bits number them.
+const ALL_FLAGS: [Flags; 4] = [
+    Flags::Continuation,
+    Flags::First,
+    Flags::Last,
+    Flags::Unsegmented,
+];
+
+const ALL_WHYS: [Why; 4] = [Why::Gap, Why::First, Why::Unsegmented, Why::Close];
+
+// What has this number in a list that is numbered from 1.
+fn numbered<T: Copy>(all: &[T], number: u8) -> Option<T>
+    ensures { result ≡ numbered all.now number }
+{
+    match number {
+        0 => None,
+        _ => all.get(usize::from(number) - 1).copied(),
+    }
+}
+
+fn packet_told(event: &Event) -> Option<LineBuffer>
+    ensures { result ≡ packet_told event.now }
+{
+    let flags = ALL_FLAGS.get(usize::from(event.flags)).copied()?;
+    let header = Header::new(
+        event.telecommand != 0,
+        event.secondary != 0,
+        event.application,
+        flags,
+        event.count,
+        0,
+    )?;
+    let place = PacketPlace {
+        seen: event.seen,
+        channel: event.channel,
+        first: event.from,
+        place: event.place,
+    };
+    let mut line = LineBuffer::new();
+    format_packet_at(&mut line, place, &header, event.octets as usize);
+    Some(line)
+}
+
+// The note of an event that tells one.
+fn note_told(event: &Event) -> Option<Note>
+    ensures { result ≡ note_told event.now }
+{
+    let (first, last) = (event.expected, event.found);
+    match event.kind {
+        SEQUENCE_GAP => Some(Note::Gap {
+            expected: first,
+            found: last,
+            missing: event.missing,
+        }),
+        BROKEN => Some(Note::Broken {
+            first,
+            last,
+            why: numbered(&ALL_WHYS, event.why)?,
+        }),
+        GROUP => Some(Note::Whole { first, last }),
+        STRAY => Some(Note::Stray {
+            count: event.count,
+            flags: ALL_FLAGS.get(usize::from(event.flags)).copied()?,
+        }),
+        _ => None,
+    }
+}
+
+/// The line of an event, as the program prints it in the list of packets or in the report: `None` where the kind is none, or a number is none
+/// that an event of the kind has.
+pub fn event_line(event: &Event) -> Option<LineBuffer>
+    ensures { result ≡ event_line event.now }
+{
+    if event.kind == PACKET {
+        return packet_told(event);
+    }
+    let mut line = LineBuffer::new();
+    match event.kind {
+        BAD => format_bad(&mut line, event.seen, numbered(&FrameFault::ALL, event.why)?),
+        MASTER_GAP => format_master_gap(
+            &mut line,
+            event.seen,
+            event.expected,
+            event.found,
+            event.missing,
+        ),
+        GAP => format_gap(
+            &mut line,
+            event.seen,
+            event.channel,
+            event.expected,
+            event.found,
+            event.missing,
+        ),
+        VCA => format_vca(&mut line, event.seen, event.channel),
+        DROP => {
+            let reason = numbered(&Reason::ALL, event.why)?;
+            let part = DroppedPart {
+                first: event.from,
+                place: event.place,
+                octets: event.octets,
+                reason,
+            };
+            format_drop(&mut line, event.seen, event.channel, part);
+        }
+        SHORT => format_short(&mut line, event.seen, event.octets as usize),
+        _ => {
+            let note = note_told(event)?;
+            format_note(
+                &mut line,
+                event.seen,
+                event.channel,
+                event.application,
+                note,
+            );
+        }
+    }
+    Some(line)
+}

@@ -20,8 +20,8 @@
 extern "C" {
 #endif
 
-/* The version: 10,000 times the major number, 100 times the minor one and the patch, so 100 for 0.1.0. */
-#define TMX_VERSION_NUMBER 100
+/* The version of the library, which counts on its own: 10,000 times the major number, 100 times the minor one and the patch, so 200 for 0.2.0. */
+#define TMX_VERSION_NUMBER 200
 
 /* That of the library which is linked. */
 uint32_t tmx_version(void);
@@ -47,7 +47,7 @@ enum tmx_status {
     TMX_TOO_MANY = 5,    /* more than 4294967295 records are done in all */
     TMX_MEMORY = 6,      /* memory ran out */
     TMX_DEFINITION = 7,  /* the definition of fields is refused: fault is an enum tmx_definition_fault, column or row what it is about */
-    TMX_APPLICATION = 8, /* the application is none: they have numbers up to 2047 */
+    TMX_APPLICATION = 8, /* an application is none: they have numbers up to 2047 */
     TMX_WHOLE = 9,       /* the summary was asked of a part: it takes the whole recording in one call */
     TMX_LONG = 10,       /* the settings, the definition or the checkpoint has over TMX_INPUT_MOST octets: fault is an enum tmx_input */
     TMX_MORE = 11,       /* a job stopped where a room may be too small for what comes next: call again, with rooms that are empty */
@@ -179,13 +179,18 @@ uint32_t tmx_run(const struct tmx_request *request, uint8_t *out, size_t out_roo
 /* A job: how far a recording was read. Only the library knows what is in it. It belongs to one thread: the one that opened it. */
 typedef struct tmx_job tmx_job;
 
-/* Why a job isn't opened: as the first numbers of struct tmx_answer. */
+/* The most octets that a line has as a text, with the 0 behind it. Texts have no line feed. */
+enum { TMX_LINE_MOST = 320 };
+
+/* Why a job isn't opened: as the first numbers of struct tmx_answer, and the line that the program prints, with the name of the key. Only a line
+   with the name of an unknown key can be longer than its room, and is cut. If memory runs out meanwhile, the line says that. */
 struct tmx_error {
     uint32_t status; /* an enum tmx_status */
     uint32_t fault;
     uint32_t key;
     uint32_t column; /* 0 */
     uint32_t row;    /* 0 */
+    char line[TMX_LINE_MOST];
 };
 
 /* What an event tells. In brackets are the numbers that it has besides `size`, `seen` and `kind`; all others are 0. */
@@ -281,6 +286,10 @@ struct tmx_progress {
 uint32_t tmx_job_new(tmx_job **job, const uint8_t *settings, size_t length, struct tmx_error *error);
 uint32_t tmx_job_resume(tmx_job **job, const uint8_t *settings, size_t length, const uint8_t *checkpoint, size_t length2, struct tmx_error *error);
 
+/* From now on the job gives packets of these applications alone; with a `count` of 0 it gives none. Notes of all packets are still given. A new
+   job gives the packets of all applications. With TMX_APPLICATION a number is over 2047, and the job is as it was. */
+uint32_t tmx_job_only(tmx_job *job, const uint16_t *applications, size_t count);
+
 /* Takes the next octets of the recording, cut anywhere: the job keeps the part of a record that isn't whole. Returns the status. With TMX_DONE
    all octets are taken. With TMX_MORE `used` of them are: read both rooms, and hand in the others again. With TMX_TOO_MANY 4294967295 records
    are done. It takes no memory. */
@@ -289,6 +298,10 @@ uint32_t tmx_job_feed(tmx_job *job, const uint8_t *octets, size_t length, struct
 /* Tells the end of the recording: what is unfinished. With TMX_DONE all is told; with TMX_MORE read the room, and call again. The first call
    needs room for TMX_EVENTS_MOST events; in less it does nothing. After it the job takes no more octets. It takes no memory. */
 uint32_t tmx_job_end(tmx_job *job, struct tmx_room *room, struct tmx_progress *progress);
+
+/* Writes the line that the program prints of an event; of a packet it is that of `tmx packets`. It ends with a 0, and is cut where the room ends:
+   TMX_LINE_MOST octets hold any. Returns how long the whole line is, without the 0: 0 where no event has such numbers. */
+size_t tmx_event_line(const struct tmx_event *event, char *line, size_t room);
 
 /* Writes the checkpoint of the whole records that are done, if the room is large enough, and always its length, which is 0 where there is no
    job or memory ran out. The status is TMX_ROOM where the room is too small. What the job keeps of a record that isn't whole is no part of it. */

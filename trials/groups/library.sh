@@ -50,9 +50,8 @@ library_names() {
     tell "the shared library has the names of the header" "$(nm -D --defined-only library/libtmx.so | sed -n 's/.* T //p' | sort | diff declared - 2>&1)"
     tell "libtmx.so is libtmx.so.0" "$(cmp library/libtmx.so library/libtmx.so.0 2>&1
         readelf -d library/libtmx.so | grep -q 'SONAME.*\[libtmx\.so\.0\]' || echo "no libtmx.so.0")"
-    tell "the header and tmx.pc have the program's version" "$("$tmx" --version | sed -n '1s/^tmx //p' >version
-        sed -n 's/^Version: //p' "$here/../library/tmx.pc" | diff version -
-        sed -n 's/^#define TMX_VERSION_NUMBER //p' "$here/../include/tmx.h" | diff <(awk -F. '{ print 10000 * $1 + 100 * $2 + $3 }' version) -)"
+    tell "the header has the version of tmx.pc" "$(sed -n 's/^#define TMX_VERSION_NUMBER //p' "$here/../include/tmx.h" \
+        | diff <(sed -n 's/^Version: //p' "$here/../library/tmx.pc" | awk -F. '{ print 10000 * $1 + 100 * $2 + $3 }') - 2>&1)"
 }
 
 # What C and Rust give, linked with the archive and with the shared library.

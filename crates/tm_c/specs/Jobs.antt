@@ -1,5 +1,5 @@
 -- What the exports on a job do. A handle has a job, or none.
-use Rattle.std.specs.Prelude.{◌≡◌, ◌≢◌, ◌⊎◌, ◌≤◌, ℕ, Option, Some, None, MatchOption, List, length, take, nat_le, if◌then◌else◌, Err}
+use Rattle.std.specs.Prelude.{◌≡◌, ◌≢◌, ◌⊎◌, ◌≤◌, ℕ, Option, Some, None, MatchOption, List, [], length, take, nat_le, if◌then◌else◌, Err}
 use Rattle.tm_frame.specs.Rules.{Rules}
 use Rattle.tm_checkpoint.specs.Checkpoints.{checkpoint_of, resumed}
 use Rattle.tm_checkpoint.specs.Works.{new_job}
@@ -11,15 +11,18 @@ use Rattle.tm_library.specs.declared.refusal.Refusal.TheVariants.{TooLong, Check
 use Rattle.tm_feed.specs.States.{FeedState}
 use Rattle.tm_feed.specs.Jobs.{GoesOnFrom, IsFed, IsStopped, new_feed, record_size}
 use Rattle.tm_feed.specs.Endings.{EndedBy, GivesEnd}
+use Rattle.tm_feed.specs.Only.{GivesOnly, IsNoApplication}
 use Rattle.tm_feed.specs.declared.event.Event.{Event}
 use Rattle.tm_feed.specs.declared.job.EndProgress.TheVariants.{Open}
 use Rattle.tm_feed.specs.declared.job.Fed.{Fed}
 use Rattle.tm_feed.specs.declared.job.StopReason.{StopReason}
 use Rattle.tm_feed.specs.declared.job.StopReason.TheVariants.{Done, Room, TooMany, Closed}
 use Rattle.tm_c.specs.declared.structs.TmxAnswer.{TmxAnswer}
+use Rattle.tm_c.specs.declared.structs.TmxOpening.{TmxOpening}
 use Rattle.tm_c.specs.declared.structs.TmxProgress.{TmxProgress}
-use Rattle.tm_c.specs.Answers.{WasRefused, refused_with}
-use Rattle.tm_c.specs.Numbers.{with_status}
+use Rattle.tm_c.specs.Answers.{refused_with}
+use Rattle.tm_c.specs.Numbers.{refusal_numbers, with_status}
+use Rattle.tm_c.specs.Texts.{IsText, TellsReason}
 
 -- where there is no job
 abbrev pub no_job_status : ℕ
@@ -42,24 +45,41 @@ IsBeginRefused rules resume checkpoint NoMemory = resume ≢ 0 → length checkp
 IsBeginRefused rules resume checkpoint other = ⊥
 
 -- the settings begin a job
-abbrev pub IsMade : List ℕ → (resume : ℕ) → List ℕ → FeedState → Type 0
-IsMade settings resume checkpoint job = (rules : Rules) × AreSettings settings rules × IsBegun rules resume checkpoint job
+abbrev pub IsMade : TmxOpening → FeedState → Type 0
+IsMade o job = (rules : Rules) × AreSettings o.settings.now rules × IsBegun rules o.resume o.checkpoint.now job
 
 -- why there is no job: what is wrong first with the settings, and then with the checkpoint; or memory ran out
-abbrev pub IsMakeRefused : List ℕ → (resume : ℕ) → List ℕ → Refusal → Type 0
-IsMakeRefused settings resume checkpoint refusal =
-    IsSettingsRefused settings refusal
-    ⊎ ((rules : Rules) × AreSettings settings rules × IsBeginRefused rules resume checkpoint refusal)
+abbrev pub IsMakeRefused : TmxOpening → Refusal → Type 0
+IsMakeRefused o refusal =
+    IsSettingsRefused o.settings.now refusal
+    ⊎ ((rules : Rules) × AreSettings o.settings.now rules × IsBeginRefused rules o.resume o.checkpoint.now refusal)
 
 -- of a job that was opened, the records that are done are answered
 abbrev pub opened_with : ℕ → TmxAnswer
 opened_with records = record (refused_with (with_status 0 0)) { records = records }
 
--- the handle has the job that was asked for, or it was refused, and the handle has what it had
-abbrev pub IsOpened : List ℕ → (resume : ℕ) → List ℕ → Option FeedState → Option FeedState → TmxAnswer → Type 0
-IsOpened settings resume checkpoint old new answer =
-    ((job : FeedState) × IsMade settings resume checkpoint job × (new ≡ Some job) × (answer ≡ opened_with job.work.state.records))
-    ⊎ ((new ≡ old) × WasRefused (IsMakeRefused settings resume checkpoint) answer)
+-- why there is no job is told in numbers and in a line
+abbrev pub IsTold : Refusal → List ℕ → TmxAnswer → Type 0
+IsTold refusal line answer = (answer ≡ refused_with (refusal_numbers refusal)) × TellsReason refusal line
+
+-- the handle has the job that was asked for; or that was refused, the handle has what it had, and the line says why
+abbrev pub IsOpened : TmxOpening → Option FeedState → Option FeedState → List ℕ → TmxAnswer → Type 0
+IsOpened o old new line answer =
+    ((job : FeedState) × IsMade o job × (new ≡ Some job) × (answer ≡ opened_with job.work.state.records) × IsText [] line 0)
+    ⊎ ((new ≡ old) × ((refusal : Refusal) × IsMakeRefused o refusal × IsTold refusal line answer))
+
+-- ---- which packets are given
+
+-- the job gives packets of these applications alone; or one is none, and the job is as it was
+abbrev pub IsJobLimited : List ℕ → FeedState → FeedState → (status : ℕ) → Type 0
+IsJobLimited applications old new status =
+    (GivesOnly applications old new × (status ≡ 0)) ⊎ (IsNoApplication applications × (new ≡ old) × (status ≡ 8))
+
+-- so does the job of the handle, if it has one
+abbrev pub IsLimited : List ℕ → Option FeedState → Option FeedState → (status : ℕ) → Type 0
+IsLimited applications old new status =
+    MatchOption old ((new ≡ None) × (status ≡ no_job_status))
+    (λ job. (after : FeedState) × (new ≡ Some after) × IsJobLimited applications job after status)
 
 -- ---- feeding
 

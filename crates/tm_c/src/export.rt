@@ -127,7 +127,7 @@ fn answer_chunk(
 {
     match run_chunk(alloc, settings, chunk, out, report, checkpoint) {
         Ok(answer) => done_with(answer, fits(answer, out, report, checkpoint)),
-        Err(refusal) => refused_with(refusal_numbers(refusal)),
+        Err(refusal) => refused_with(refusal_numbers(&refusal)),
     }
 }
 
@@ -152,7 +152,7 @@ fn answer_wanted(
             };
             answer_chunk(alloc, &settings, chunk, out, report, checkpoint)
         }
-        Err(refusal) => refused_with(refusal_numbers(refusal)),
+        Err(refusal) => refused_with(refusal_numbers(&refusal)),
     }
 }
 
@@ -202,7 +202,7 @@ fn answer_rows(
             };
             answer_chunk(alloc, settings, chunk, out, report, checkpoint)
         }
-        Err(refusal) => refused_with(refusal_numbers(refusal)),
+        Err(refusal) => refused_with(refusal_numbers(&refusal)),
     }
 }
 
@@ -221,7 +221,7 @@ fn answer_fields(
     }
     match read_settings(alloc, request.settings) {
         Ok(settings) => answer_rows(alloc, &settings, request, out, report, checkpoint),
-        Err(refusal) => refused_with(refusal_numbers(refusal)),
+        Err(refusal) => refused_with(refusal_numbers(&refusal)),
     }
 }
 
@@ -236,7 +236,7 @@ fn answer_whole(
 {
     match summarize_recording(alloc, settings, request.octets, out) {
         Ok(answer) => done_with(answer, answer.out <= out.len()),
-        Err(refusal) => refused_with(refusal_numbers(refusal)),
+        Err(refusal) => refused_with(refusal_numbers(&refusal)),
     }
 }
 
@@ -249,7 +249,7 @@ fn answer_summary(alloc: Global, request: &TmxRequest<'_>, out: &mut [u8]) -> Tm
     }
     match read_settings(alloc, request.settings) {
         Ok(settings) => answer_whole(alloc, &settings, request, out),
-        Err(refusal) => refused_with(refusal_numbers(refusal)),
+        Err(refusal) => refused_with(refusal_numbers(&refusal)),
     }
 }
 

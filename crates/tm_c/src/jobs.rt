@@ -1,11 +1,12 @@
 //! The calls on a job that C keeps by a handle.
 
 ghost use Rattle.std.specs.Prelude.{◌≡◌, ◌≤◌, None, IfOk, IfErr};
-ghost use Rattle.tm_c.specs.Jobs.{IsBegun, IsBeginRefused, IsDoneWith, IsJobEnded, IsJobFed, IsJobKept, IsKept, IsMade, IsMakeRefused, IsOpened, no_progress, opened_with, progress_of, record_length_in, records_of, stop_status};
+ghost use Rattle.tm_c.specs.Jobs.{IsBegun, IsBeginRefused, IsDoneWith, IsJobEnded, IsJobFed, IsJobKept, IsJobLimited, IsKept, IsLimited, IsMade, IsMakeRefused, IsOpened, IsTold, no_progress, opened_with, progress_of, record_length_in, records_of, stop_status};
 
 use crate::export::refused_with;
 use crate::numbers::{refusal_numbers, with_status};
-use crate::structs::{TmxAnswer, TmxProgress};
+use crate::structs::{TmxAnswer, TmxOpening, TmxProgress};
+use crate::texts::{write_reason, write_text};
 use std::alloc::Global;
 use std::mem::replace;
 use tm_feed::{Event, Fed, FedJob, StopReason};
@@ -36,18 +37,13 @@ fn begin_job(
     Ok(FedJob::resume(alloc, settings, checkpoint)?)
 }
 
-// The job by these settings, in a box.
-fn make_job(
-    alloc: Global,
-    settings: &[u8],
-    resume: u32,
-    checkpoint: &[u8],
-) -> Result<Box<FedJob>, Refusal>
-    ensures ok { IfOk result (λ job. IsMade settings.now resume checkpoint.now job.value) }
-    ensures refused { IfErr result (IsMakeRefused settings.now resume checkpoint.now) }
+// The job that is asked for, in a box.
+fn make_job(alloc: Global, opening: &TmxOpening<'_>) -> Result<Box<FedJob>, Refusal>
+    ensures ok { IfOk result (λ job. IsMade opening.now job.value) }
+    ensures refused { IfErr result (IsMakeRefused opening.now) }
 {
-    let settings = read_settings(alloc, settings)?;
-    let job = begin_job(alloc, &settings, resume, checkpoint)?;
+    let settings = read_settings(alloc, opening.settings)?;
+    let job = begin_job(alloc, &settings, opening.resume, opening.checkpoint)?;
     match Box::new(alloc, job) {
         Ok(job) => Ok(job),
         Err(_) => Err(Refusal::NoMemory),
@@ -63,28 +59,63 @@ fn opened_with(records: u32) -> TmxAnswer
     answer
 }
 
-/// Opens a job. The one that the handle had is freed, unless the call is refused.
+// Tells why there is no job, in numbers and in a line.
+fn tell(alloc: Global, refusal: Refusal, line: &mut [u8]) -> TmxAnswer
+    ensures { IsTold refusal line.new result }
+{
+    let answer = refused_with(refusal_numbers(&refusal));
+    write_reason(alloc, refusal, line);
+    answer
+}
+
+/// Opens a job. The one that the handle had is freed, unless the call is refused. Then the room says why, as the program does.
 #[unsafe(no_mangle)]
 pub extern "C" fn job_open(
     alloc: Global,
     handle: &mut Handle,
-    settings: &[u8],
-    resume: u32,
-    checkpoint: &[u8],
+    opening: &TmxOpening<'_>,
+    line: &mut [u8],
     answer: &mut TmxAnswer,
 ) -> u32
-    ensures opened { IsOpened settings.now resume checkpoint.now handle.old.job handle.new.job answer.new }
+    ensures opened { IsOpened opening.now handle.old.job handle.new.job line.new answer.new }
     ensures status { result ≡ answer.new.status }
 {
-    *answer = match make_job(alloc, settings, resume, checkpoint) {
+    *answer = match make_job(alloc, opening) {
         Ok(job) => {
             let records = job.records();
             *handle = Handle::of(job);
+            write_text(&[], line);
             opened_with(records)
         }
-        Err(refusal) => refused_with(refusal_numbers(refusal)),
+        Err(refusal) => tell(alloc, refusal, line),
     };
     answer.status
+}
+
+// Has a job give packets of these applications alone.
+fn limit_job(job: &mut FedJob, applications: &[u16]) -> u32
+    ensures { IsJobLimited applications.now job.old job.new result }
+{
+    match job.give_only(applications) {
+        Ok(()) => 0,
+        Err(_) => 8,
+    }
+}
+
+/// Has the job give packets of these applications alone from now on.
+#[unsafe(no_mangle)]
+pub extern "C" fn job_only(alloc: Global, handle: &mut Handle, applications: &[u16]) -> u32
+    ensures limited { IsLimited applications.now handle.old.job handle.new.job result }
+    ensures place { handle.new.at ≡ handle.old.at }
+{
+    match replace(handle, Handle::empty(alloc)).into_loose() {
+        Some(mut loose) => {
+            let status = limit_job(loose.as_mut(), applications);
+            *handle = Handle::of_loose(loose);
+            status
+        }
+        None => NO_JOB,
+    }
 }
 
 fn stop_status(stop: StopReason) -> u32

@@ -5,3 +5,4 @@ mod export;
 mod jobs;
 mod numbers;
 mod structs;
+mod texts;

@@ -58,15 +58,15 @@ fn about_key(fault: u32, key: Key) -> Numbers
     numbers
 }
 
-fn settings_numbers(fault: SettingsFault) -> Numbers
-    ensures { result ≡ settings_numbers fault }
+fn settings_numbers(fault: &SettingsFault) -> Numbers
+    ensures { result ≡ settings_numbers fault.now }
 {
     match fault {
         SettingsFault::Toml => with_status(3, 1),
         SettingsFault::Unknown(_) => with_status(3, 2),
-        SettingsFault::Missing(key) => about_key(3, key),
-        SettingsFault::Kind(key) => about_key(4, key),
-        SettingsFault::Range(key) => about_key(5, key),
+        SettingsFault::Missing(key) => about_key(3, *key),
+        SettingsFault::Kind(key) => about_key(4, *key),
+        SettingsFault::Range(key) => about_key(5, *key),
         SettingsFault::NoMemory => with_status(6, 0),
     }
 }
@@ -139,14 +139,14 @@ fn input_number(input: Input) -> u32
 }
 
 /// The numbers of a refusal.
-pub fn refusal_numbers(refusal: Refusal) -> Numbers
-    ensures { result ≡ refusal_numbers refusal }
+pub fn refusal_numbers(refusal: &Refusal) -> Numbers
+    ensures { result ≡ refusal_numbers refusal.now }
 {
     match refusal {
-        Refusal::TooLong(input) => with_status(10, input_number(input)),
+        Refusal::TooLong(input) => with_status(10, input_number(*input)),
         Refusal::Settings(fault) => settings_numbers(fault),
-        Refusal::Definition(fault) => definition_numbers(fault),
-        Refusal::Checkpoint(fault) => with_status(4, checkpoint_number(fault)),
+        Refusal::Definition(fault) => definition_numbers(*fault),
+        Refusal::Checkpoint(fault) => with_status(4, checkpoint_number(*fault)),
         Refusal::TooMany => with_status(5, 0),
         Refusal::NoMemory => with_status(6, 0),
     }

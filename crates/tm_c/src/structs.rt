@@ -12,6 +12,14 @@ pub struct TmxRequest<'a> {
     pub last: u32,
 }
 
+/// What a job is opened with. With `resume` other than 0 it goes on from the checkpoint.
+#[repr(C)]
+pub struct TmxOpening<'a> {
+    pub settings: &'a [u8],
+    pub checkpoint: &'a [u8],
+    pub resume: u32,
+}
+
 /// What a call answers.
 #[repr(C)]
 #[derive(Clone, Copy, Debug, PartialEq, Eq)]

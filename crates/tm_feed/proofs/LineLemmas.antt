@@ -1,8 +1,7 @@
 -- What events say is what the program says.
-use Rattle.std.proofs.Common.{◌≡◌, ℕ, eqb, Bool, true, false, ◌+◌, ◌<◌, Option, Some, None, List, [], ◌∷◌, ◌++◌, length, map, refl, sym, ap, ◌∙◌, append-nil, arith}
-use Rattle.std.specs.Prelude.{nat_lt, not, ◌||◌, if◌then◌else◌, slice_get}
+use Rattle.std.proofs.Common.{◌≡◌, ℕ, eqb, Bool, true, false, ◌+◌, Some, List, [], ◌∷◌, ◌++◌, length, map, refl, ap, ◌∙◌, append-nil, arith}
+use Rattle.std.specs.Prelude.{not, if◌then◌else◌, slice_get}
 use Rattle.std.specs.List.{flat_map}
-use Rattle.std.specs.Option.{option_and_then, option_map}
 use Rattle.std.proofs.lemmas.Bool.{le-ltb}
 use Rattle.std.proofs.lemmas.Grind.{flat_map-append}
 use Rattle.std.proofs.lemmas.List.{get_or-replicate}
@@ -13,10 +12,11 @@ use Rattle.tm_packet.specs.declared.notes.Note.{Note}
 use Rattle.tm_packet.specs.declared.notes.Note.TheVariants as note
 use Rattle.tm_packet.specs.declared.notes.Why.{Why}
 use Rattle.tm_packet.specs.declared.notes.Why.TheVariants as why
-use Rattle.tm_packet.specs.Header.{AreInRange, Fields, flags_number, made_of, packet_header_of}
+use Rattle.tm_packet.specs.Header.{AreInRange, Fields, flags_number, packet_header_of}
 use Rattle.tm_packet.specs.Merge.{Entries}
 use Rattle.tm_frame.specs.declared.fault.FrameFault.{FrameFault}
 use Rattle.tm_frame.specs.declared.fault.FrameFault.TheVariants as fault
+use Rattle.tm_frame.specs.Fault.{all_faults}
 use Rattle.tm_frame.specs.FaultWords.{fault_number}
 use Rattle.tm_items.specs.declared.items.Reason.{Reason}
 use Rattle.tm_items.specs.declared.items.Reason.TheVariants as reason
@@ -25,8 +25,7 @@ use Rattle.tm_items.specs.Item.{Item, Bad, MasterGap, Gap, Vca, Dropped, Packet,
 use Rattle.tm_lines.specs.Lines.{note_line, note_lines, packet_line}
 use Rattle.tm_output.specs.Pieces.{item_line, listed, noted, notes_of, pieces_of, report_of, sent, text_of}
 use Rattle.tm_output.specs.declared.command.Command.TheVariants.{Extract, Packets}
-use Rattle.tm_feed.specs.declared.event.Event.{Event}
-use Rattle.tm_feed.specs.EventLines.{all_faults, all_flags, all_whys, event_line, line_or_none, numbered, packet_lines, report_lines}
+use Rattle.tm_feed.specs.EventLines.{all_flags, all_whys, event_line, nth_of, packet_lines, report_lines}
 use Rattle.tm_feed.specs.Events.{bit, item_event, note_event, reason_number, why_number}
 use Rattle.tm_feed.specs.Feeding.{events_of, gives, item_events, item_octets, noted_events, packet_events}
 use Rattle.tm_feed.specs.Jobs.{all_given}
@@ -39,7 +38,7 @@ flags_back First = refl
 flags_back Last = refl
 flags_back Unsegmented = refl
 
-fault_back : (f : FrameFault) → numbered all_faults (fault_number f) ≡ Some f
+fault_back : (f : FrameFault) → nth_of all_faults (fault_number f) ≡ Some f
 fault_back fault.Crc = refl
 fault_back fault.Version = refl
 fault_back fault.Spacecraft = refl
@@ -49,7 +48,7 @@ fault_back fault.SecondaryVersion = refl
 fault_back fault.Layout = refl
 fault_back fault.Pointer = refl
 
-reason_back : (r : Reason) → numbered all_reasons (reason_number r) ≡ Some r
+reason_back : (r : Reason) → nth_of all_reasons (reason_number r) ≡ Some r
 reason_back reason.Pointer = refl
 reason_back reason.Gap = refl
 reason_back reason.Vca = refl
@@ -58,7 +57,7 @@ reason_back reason.NoStart = refl
 reason_back reason.Version = refl
 reason_back reason.Length = refl
 
-why_back : (w : Why) → numbered all_whys (why_number w) ≡ Some w
+why_back : (w : Why) → nth_of all_whys (why_number w) ≡ Some w
 why_back why.Gap = refl
 why_back why.First = refl
 why_back why.Unsegmented = refl
@@ -71,7 +70,6 @@ note_said seen channel application (note.Gap expected found missing) = refl
 note_said seen channel application (note.Broken first last w) = rw (why_back w) refl
 note_said seen channel application (note.Whole first last) = refl
 note_said seen channel application (note.Stray count f) = rw (flags_back f) refl
-
 
 bit_back : (b : Bool) → not (eqb (bit b) 0) ≡ b
 bit_back true = refl

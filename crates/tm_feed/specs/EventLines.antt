@@ -1,9 +1,8 @@
 -- The line of an event: the one that the program prints.
-use Rattle.std.specs.Prelude.{ℕ, zero, suc, ◌==◌, ◌≢◌, not, Bool, Option, Some, None, List, [], ◌∷◌, slice_get, if◌then◌else◌}
+use Rattle.std.specs.Prelude.{ℕ, zero, suc, ◌==◌, not, Option, Some, None, List, [], ◌∷◌, slice_get, if◌then◌else◌}
 use Rattle.std.specs.List.{flat_map}
 use Rattle.std.specs.Option.{option_map, option_and_then, unwrap_or}
-use Rattle.tm_frame.specs.declared.fault.FrameFault.{FrameFault}
-use Rattle.tm_frame.specs.declared.fault.FrameFault.TheVariants as fault
+use Rattle.tm_frame.specs.Fault.{all_faults}
 use Rattle.tm_packet.specs.declared.header.Flags.{Flags}
 use Rattle.tm_packet.specs.declared.header.Flags.TheVariants as flags
 use Rattle.tm_packet.specs.declared.notes.Note.{Note}
@@ -16,13 +15,9 @@ use Rattle.tm_lines.specs.Lines.{bad_line, drop_line, gap_line, master_gap_line,
 use Rattle.tm_feed.specs.declared.event.Event.{Event}
 
 -- what has this number in a list that is numbered from 1
-abbrev pub numbered : {A : Type 0} → List A → ℕ → Option A
-numbered xs zero = None
-numbered xs (suc n) = slice_get xs n
-
-abbrev pub all_faults : List FrameFault
-all_faults =
-    fault.Crc ∷ fault.Version ∷ fault.Spacecraft ∷ fault.SecondaryFlag ∷ fault.OcfFlag ∷ fault.SecondaryVersion ∷ fault.Layout ∷ fault.Pointer ∷ []
+abbrev pub nth_of : {A : Type 0} → List A → ℕ → Option A
+nth_of xs zero = None
+nth_of xs (suc n) = slice_get xs n
 
 -- as their two bits number them
 abbrev pub all_flags : List Flags
@@ -52,7 +47,7 @@ packet_told e =
 abbrev pub note_told : Event → Option Note
 note_told e =
     if e.kind == 8 then Some (note.Gap e.expected e.found e.missing)
-    else if e.kind == 9 then option_map (note.Broken e.expected e.found) (numbered all_whys e.why)
+    else if e.kind == 9 then option_map (note.Broken e.expected e.found) (nth_of all_whys e.why)
     else if e.kind == 10 then Some (note.Whole e.expected e.found)
     else if e.kind == 11 then option_map (note.Stray e.count) (slice_get all_flags e.flags)
     else None
@@ -61,11 +56,11 @@ note_told e =
 abbrev pub event_line : Event → Option (List ℕ)
 event_line e =
     if e.kind == 1 then packet_told e
-    else if e.kind == 2 then option_map (bad_line e.seen) (numbered all_faults e.why)
+    else if e.kind == 2 then option_map (bad_line e.seen) (nth_of all_faults e.why)
     else if e.kind == 3 then Some (master_gap_line e.seen e.expected e.found e.missing)
     else if e.kind == 4 then Some (gap_line e.seen e.channel e.expected e.found e.missing)
     else if e.kind == 5 then Some (vca_line e.seen e.channel)
-    else if e.kind == 6 then option_map (drop_line e.seen e.channel e.from e.place e.octets) (numbered all_reasons e.why)
+    else if e.kind == 6 then option_map (drop_line e.seen e.channel e.from e.place e.octets) (nth_of all_reasons e.why)
     else if e.kind == 7 then Some (short_line e.seen e.octets)
     else option_map (note_line e.seen e.channel e.application) (note_told e)
 

@@ -1,9 +1,11 @@
 //! The line of an event, as the program prints it.
 
 ghost use Rattle.std.specs.Prelude.{◌≡◌};
-ghost use Rattle.tm_feed.specs.EventLines.{event_line, note_told, numbered, packet_told};
+ghost use Rattle.tm_feed.specs.EventLines.{event_line, note_told, nth_of, packet_told};
 
-use crate::event::{BAD, BROKEN, DROP, Event, GAP, GROUP, MASTER_GAP, PACKET, SEQUENCE_GAP, SHORT, STRAY, VCA};
+use crate::event::{
+    BAD, BROKEN, DROP, Event, GAP, GROUP, MASTER_GAP, PACKET, SEQUENCE_GAP, SHORT, STRAY, VCA,
+};
 use tm_frame::FrameFault;
 use tm_items::Reason;
 use tm_lines::{
@@ -22,9 +24,9 @@ const ALL_FLAGS: [Flags; 4] = [
 
 const ALL_WHYS: [Why; 4] = [Why::Gap, Why::First, Why::Unsegmented, Why::Close];
 
-// What has this number in a list that is numbered from 1.
-fn numbered<T: Copy>(all: &[T], number: u8) -> Option<T>
-    ensures { result ≡ numbered all.now number }
+// What has this number in a list that is nth_of from 1.
+fn nth_of<T: Copy>(all: &[T], number: u8) -> Option<T>
+    ensures { result ≡ nth_of all.now number }
 {
     match number {
         0 => None,
@@ -69,7 +71,7 @@ fn note_told(event: &Event) -> Option<Note>
         BROKEN => Some(Note::Broken {
             first,
             last,
-            why: numbered(&ALL_WHYS, event.why)?,
+            why: nth_of(&ALL_WHYS, event.why)?,
         }),
         GROUP => Some(Note::Whole { first, last }),
         STRAY => Some(Note::Stray {
@@ -90,7 +92,7 @@ pub fn event_line(event: &Event) -> Option<LineBuffer>
     }
     let mut line = LineBuffer::new();
     match event.kind {
-        BAD => format_bad(&mut line, event.seen, numbered(&FrameFault::ALL, event.why)?),
+        BAD => format_bad(&mut line, event.seen, nth_of(&FrameFault::ALL, event.why)?),
         MASTER_GAP => format_master_gap(
             &mut line,
             event.seen,
@@ -108,7 +110,7 @@ pub fn event_line(event: &Event) -> Option<LineBuffer>
         ),
         VCA => format_vca(&mut line, event.seen, event.channel),
         DROP => {
-            let reason = numbered(&Reason::ALL, event.why)?;
+            let reason = nth_of(&Reason::ALL, event.why)?;
             let part = DroppedPart {
                 first: event.from,
                 place: event.place,

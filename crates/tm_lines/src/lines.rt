@@ -132,13 +132,13 @@ fn format_flags(line: &mut LineBuffer, flags: Flags)
     }
 }
 
-/// The line of a packet of so many octets that was found at a place.
+/// The line of a packet of this length that was found at a place.
 #[inline(always)]
-pub fn format_packet_at(line: &mut LineBuffer, place: PacketPlace, header: &Header, octets: usize)
-    ensures { line.new ≡ packet_line place.seen place.channel place.first place.place header.now octets }
+pub fn format_packet_at(line: &mut LineBuffer, place: PacketPlace, header: &Header, length: usize)
+    ensures { line.new ≡ packet_line place.seen place.channel place.first place.place header.now length }
 {
     line.start();
-    line.prepend_long_number(octets as u64);
+    line.prepend_long_number(length as u64);
     line.prepend_text(b" octets=");
     line.prepend_number(u32::from(header.count()));
     line.prepend_text(b" count=");

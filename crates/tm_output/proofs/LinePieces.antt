@@ -6,10 +6,9 @@ use Rattle.std.proofs.KnownBytes.{Appends-kept, Appends-nil, Appends-trans}
 use Rattle.std.proofs.lemmas.List.{map-append}
 use Rattle.std.specs.Result.{OnErr}
 use Rattle.tm_devices.specs.Devices.{AppendsPrefix, CountsFailures, raised}
-use Rattle.tm_faults.specs.declared.run.RunFault.{RunFault}
 use Rattle.tm_faults.specs.declared.run.RunFault.TheVariants.{Write}
-use Rattle.tm_output.specs.Outputs.{WantsMemory, octets_buffering, AppendsCut, Piece, Stopped, Took, View, Buffering, line_piece, line_pieces, outs, reports, view}
-use Rattle.tm_output.proofs.PieceLemmas.{cut_all, cut_more, cut_none, flush_out, stopped_put, took_failed, took_stopped, took_took}
+use Rattle.tm_output.specs.Outputs.{WantsMemory, octets_buffering, AppendsCut, Piece, Stopped, Took, View, Buffering, line_piece, line_pieces, outs, view}
+use Rattle.tm_output.proofs.PieceLemmas.{cut_none, flush_out, stopped_put, took_failed, took_took}
 
 pub lines_out : (ls : List (List ℕ)) → outs (line_pieces ls) ≡ concat ls
 lines_out [] = refl

@@ -78,7 +78,7 @@ library_examples() {
         rustc --edition 2021 -O -o extract_rs "$here/../library/extract.rs" -L library -l static=tmx 2>made || cat made
         tell "the example in Rust" "$(differs ./extract_rs)"
         rustc --edition 2021 -O -o wrapper_rs "$here/library.rs" -L library -l static=tmx 2>made || cat made
-        tell "the wrapper in Rust, by each command in chunks" "$(told ./wrapper_rs "$s" "$rec" "$example/attitude.csv")"
+        tell "the wrapper in Rust, in chunks" "$(told ./wrapper_rs "$s" "$rec" expected/packets expected/extract expected/report)"
     else
         skip 2 "the example and the wrapper in Rust" "no rustc"
     fi

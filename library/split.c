@@ -1,20 +1,35 @@
-/* FOLDER < PACKETS: the octets that `extract` gives, to a file for each application, as `tmx split` does. A packet says in its header of which
-   application it is, and how long. So the octets that a call gives can be split without more: they are whole packets. */
-#include <stdint.h>
+/* FOLDER SETTINGS RECORDING: the packets' octets to a file for each application, as `tmx split` writes them. */
+#include "tmx.h"
 #include <stdio.h>
-#include <stdlib.h>
+
+static struct tmx_event events[8 * TMX_EVENTS_MOST];
+static uint8_t packets[1 << 20];
+
+static int add(const char *folder, const struct tmx_event *packet) {
+    char name[4096];
+    FILE *file;
+    snprintf(name, sizeof name, "%s/apid-%04u.pkt", folder, packet->application);
+    file = fopen(name, "ab");
+    return file != NULL && fwrite(packets + packet->at, 1, packet->octets, file) == packet->octets && fclose(file) == 0;
+}
 
 int main(int argc, char **argv) {
-    static uint8_t packet[65542];
-    if (argc != 2) return 2;
-    while (fread(packet, 1, 6, stdin) == 6) {
-        const unsigned application = (packet[0] & 7u) << 8 | packet[1], rest = (packet[4] << 8 | packet[5]) + 1u;
-        char name[4096];
-        FILE *file;
-        if (fread(packet + 6, 1, rest, stdin) != rest) return 1;
-        snprintf(name, sizeof name, "%s/apid-%04u.pkt", argv[1], application);
-        file = fopen(name, "ab");
-        if (file == NULL || fwrite(packet, 1, 6 + rest, file) != 6 + rest || fclose(file) != 0) return 1;
-    }
-    return 0;
+    static uint8_t text[TMX_INPUT_MOST + 1], chunk[1 << 16];
+    FILE *settings = argc == 4 ? fopen(argv[2], "rb") : NULL, *recording = argc == 4 ? fopen(argv[3], "rb") : NULL;
+    struct tmx_room room = {events, 8 * TMX_EVENTS_MOST, packets, sizeof packets};
+    struct tmx_progress did;
+    struct tmx_error error;
+    tmx_job *job;
+    size_t read;
+    if (settings == NULL || recording == NULL) return 2;
+    if (tmx_job_new(&job, text, fread(text, 1, sizeof text, settings), &error) != TMX_DONE) return fprintf(stderr, "%s\n", error.line), 1;
+    while ((read = fread(chunk, 1, sizeof chunk, recording)) != 0)
+        for (size_t at = 0; at < read; at += did.used) {
+            uint32_t status = tmx_job_feed(job, chunk + at, read - at, &room, &did);
+            if (status != TMX_DONE && status != TMX_MORE) return fprintf(stderr, "%s\n", tmx_status_text(status)), 1;
+            for (size_t k = 0; k < did.events; k++)
+                if (events[k].kind == TMX_EVENT_PACKET && !add(argv[1], &events[k])) return 1;
+        }
+    tmx_job_free(job);
+    return ferror(recording) != 0;
 }

@@ -1,7 +1,6 @@
 /* Calls of libtmx whose octets and rooms stand in memory of their own, just as large as they are said to be: a sanitizer sees what goes past them.
 
    library chunks SIZE SETTINGS RECORDING    `extract` in chunks of so many octets, each call first without room, and then with just enough
-   library job SIZE SETTINGS RECORDING       `extract` by library/job.h in chunks of so many octets, after calls that are refused
    library hostile 0 SETTINGS RECORDING      checkpoints with bits changed and cut after octets, rooms one octet too small, settings cut after
                                              each octet, texts one octet too long, two wrong ones at once, numbers that stand for nothing
    library many TIMES SETTINGS RECORDING     so often two calls over a chunk of one octet: no memory may stay behind
@@ -12,7 +11,7 @@
    library speed SIZE SETTINGS RECORDING     how long a call takes by `extract`, in chunks of so many octets: the least of 20 rounds
    library fed SIZE SETTINGS RECORDING       likewise of a job of the library, which gives the packets with all their numbers
    library rows TIMES SETTINGS RECORDING     how long a call over no octets takes by `extract`, and by `fields` with 1000 rows: the least */
-#include "job.h"
+#include "tmx.h"
 #include <malloc.h>
 #include <pthread.h>
 #include <stdio.h>
@@ -124,24 +123,6 @@ static int chunks(struct octets settings, struct octets recording, size_t size) 
     }
     free(checkpoint.at);
     return at == recording.length ? 0 : 6;
-}
-
-static int by_job(struct octets settings, struct octets recording, size_t size) {
-    struct job job = {.request = {.settings = lent(settings), .command = TMX_EXTRACT}};
-    for (size_t at = 0, more = 1; more; at += size) {
-        size_t length = recording.length - at < size ? recording.length - at : size;
-        struct octets chunk = copy(recording.at + at, length);
-        more = length == size;
-        job.request.command = TMX_BINARY_FIELDS + 1;
-        if (at % 7 == 0 && job_feed(&job, chunk.at, length, !more) != TMX_COMMAND) return 5;
-        job.request.command = TMX_EXTRACT;
-        if (job_feed(&job, chunk.at, length, !more) != TMX_DONE) return 6;
-        free(chunk.at);
-        fwrite(job.out.at, 1, job.answer.out_length, stdout);
-        fwrite(job.report.at, 1, job.answer.report_length, stderr);
-    }
-    job_free(&job);
-    return 0;
 }
 
 /* The call has to be refused so, with nothing but the reason. */
@@ -330,11 +311,13 @@ static struct octets most_rows(void) {
 /* What the calls on the small stack read. */
 static struct octets deep_settings, deep_recording;
 
-/* Each command with these settings, first anew and then behind a checkpoint. */
+/* Each command with these settings, first anew and then behind a checkpoint. Likewise a job is opened. */
 static void *calls_on_it(void *unused) {
     static uint8_t out[1 << 20], report[1 << 20], kept[TMX_CHECKPOINT_MOST], next[TMX_CHECKPOINT_MOST];
     struct tmx_request request = {lent(deep_settings), {kept, 0}, lent(deep_recording), lent(definition), 0, application, 0};
     struct tmx_answer answer;
+    struct tmx_error error;
+    tmx_job *job;
     for (size_t round = 0; round < 2; round++) {
         for (request.command = TMX_EXTRACT; request.command <= TMX_BINARY_FIELDS; request.command++) {
             request.last = request.command == TMX_SUMMARY;
@@ -345,6 +328,8 @@ static void *calls_on_it(void *unused) {
             }
         }
     }
+    if (tmx_job_new(&job, deep_settings.at, deep_settings.length, &error) == TMX_DONE) tmx_job_free(job);
+    if (tmx_job_resume(&job, deep_settings.at, deep_settings.length, kept, request.checkpoint.length, &error) == TMX_DONE) tmx_job_free(job);
     return unused;
 }
 
@@ -512,7 +497,6 @@ int main(int argc, char **argv) {
     settings = file_octets(argv[3]);
     recording = file_octets(argv[4]);
     if (strcmp(argv[1], "chunks") == 0) status = chunks(settings, recording, (size_t)atol(argv[2]));
-    if (strcmp(argv[1], "job") == 0) status = by_job(settings, recording, (size_t)atol(argv[2]));
     if (strcmp(argv[1], "hostile") == 0) status = hostile(settings, recording);
     if (strcmp(argv[1], "many") == 0) status = many(settings, recording, atol(argv[2]));
     if (strcmp(argv[1], "names") == 0) status = names(settings);

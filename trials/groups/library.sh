@@ -35,6 +35,24 @@ differs() {
     cmp report expected/report 2>&1
 }
 
+# The same of a recording at whose end 16,352 groups are open: more than the examples have room for.
+ends_otherwise() {
+    if [ ! -e open.rec ]; then
+        settings open.toml 5 1028 false 'secondary = "never"' 'ocf = "never"'
+        python3 - <<'END'
+packets = b"".join(application.to_bytes(2, "big") + bytes.fromhex("4000 0000 00") for application in range(2044))
+with open("open.rec", "wb") as file:
+    for frame in range(8 * 14):
+        channel, count = divmod(frame, 14)
+        file.write((5 << 36 | channel << 33 | frame << 24 | count << 16).to_bytes(6, "big") + packets[1022 * count :][:1022])
+END
+        "$tmx" extract --settings open.toml open.rec >open.packets 2>open.report
+        [ "$(grep -c '^broken .* reason=end$' open.report)" = 16352 ] || echo "another recording"
+    fi
+    "$@" open.toml open.rec 2>report | cmp - open.packets 2>&1
+    cmp report open.report 2>&1
+}
+
 # What a program prints that has nothing to say, and its status if that isn't 0.
 told() {
     local status=0
@@ -71,31 +89,30 @@ library_examples() {
     tell "the example in C, with the archive" "$(differs ./extract_c)"
     gcc "${flags[@]}" -o extract_so "$here/../library/extract.c" -L library -ltmx 2>made || cat made
     tell "the example in C, with the shared library" "$(LD_LIBRARY_PATH=library differs ./extract_so)"
-    gcc "${flags[@]}" -o split_c "$here/../library/split.c" 2>made || cat made
+    tell "the example in C, with many groups that are open at the end" "$(ends_otherwise ./extract_c)"
+    gcc "${flags[@]}" -o split_c "$here/../library/split.c" library/libtmx.a 2>made || cat made
     mkdir -p apart
-    tell "the example that splits" "$(./extract_c "$s" "$rec" 2>/dev/null | ./split_c apart 2>&1; diff -r apart expected/split 2>&1 | head -n 3)"
+    tell "the example that splits" "$(./split_c apart "$s" "$rec" 2>&1; diff -r apart expected/split 2>&1 | head -n 3)"
     if command -v rustc >/dev/null; then
         rustc --edition 2021 -O -o extract_rs "$here/../library/extract.rs" -L library -l static=tmx 2>made || cat made
         tell "the example in Rust" "$(differs ./extract_rs)"
+        tell "the example in Rust, with many groups that are open at the end" "$(ends_otherwise ./extract_rs)"
         rustc --edition 2021 -O -o wrapper_rs "$here/library.rs" -L library -l static=tmx 2>made || cat made
         tell "the wrapper in Rust, in chunks" "$(told ./wrapper_rs "$s" "$rec" expected/packets expected/extract expected/report)"
     else
-        skip 2 "the example and the wrapper in Rust" "no rustc"
+        skip 3 "the example and the wrapper in Rust" "no rustc"
     fi
 }
 
 # Calls over memory that is just as large as it is said to be, by a sanitizer.
 library_calls() {
-    local flags=(-std=gnu11 -g -O1 -pthread -I "$here/../include" -I "$here/../library") seen=(-fsanitize=address,undefined -fno-sanitize-recover=all) size
+    local flags=(-std=gnu11 -g -O1 -pthread -I "$here/../include") seen=(-fsanitize=address,undefined -fno-sanitize-recover=all) size
     gcc "${flags[@]}" -o calls "$here/library.c" library/libtmx.a 2>made || cat made
     if [ -e calls ] && ! gcc "${flags[@]}" "${seen[@]}" -o calls_seen "$here/library.c" library/libtmx.a 2>made; then
-        skip 8 "calls over memory that is just as large as it is said to be" "no AddressSanitizer"
+        skip 5 "calls over memory that is just as large as it is said to be" "no AddressSanitizer"
     else
         for size in 1115 100000; do
             tell "rooms of just enough octets, in chunks of $size" "$(differs ./calls_seen chunks $size)"
-        done
-        for size in 1 257 100000; do
-            tell "a job of job.h, in chunks of $size" "$(differs ./calls_seen job $size)"
         done
         tell "versions, texts of statuses, and NULL with a length of 0" "$(told ./calls_seen names 0 "$s" "$rec")"
         tell "jobs that are refused, NULL, without room, and closed" "$(told ./calls_seen jobs 0 "$s" "$rec")"
@@ -130,12 +147,12 @@ library() {
     # guards: tmx_run-answers-in-numbers-what-the-call-gave
     # guards: a-job-that-is-fed-gives-just-the-events-of-its-octets
     # guards: calls-on-a-job-do-what-the-job-does
-    plan 34
+    plan 33
     names
     if [ -n "${LIBRARY:-}" ]; then
         cp -r "$LIBRARY" library
     elif ! command -v rt >/dev/null || ! command -v cc >/dev/null; then
-        skip 34 "the library" "no rt, or no C compiler"
+        skip 33 "the library" "no rt, or no C compiler"
         return
     elif ! make_library; then
         no "the library is made: $(tail -n 3 made)"
@@ -148,7 +165,7 @@ library() {
         library_calls
         library_stack
     else
-        skip 32 "the library from C and Rust" "no gcc"
+        skip 31 "the library from C and Rust" "no gcc"
     fi
     part library.py python3 "$here/library.py" "$tmx" "$PWD/library/libtmx.so" "${CHUNKED:-40}"
     part test_engine env "TMX=$tmx" "TMX_LIBRARY=$PWD/library/libtmx.so" python3 "$here/../python/tests/run.py" test_engine

@@ -1,6 +1,7 @@
 #!/usr/bin/env python3
 """The library libtmx beside the program: random recordings in random chunks give just what one run of the program gives, and each call's number
-`strict` is what its frames and its report tell. Jobs are fed in random pieces, into random rooms, and their events say the program's lines.
+`strict` is what its frames and its report tell. Jobs are fed in random pieces, into random rooms. Their events say the program's lines, and so
+does `tmx_event_line` of them.
 
     library.py TMX LIBRARY ROUNDS
 
@@ -10,42 +11,84 @@ command. The lines are those of hostile.sh."""
 import ctypes
 import pathlib
 import random
+import re
 import subprocess
 import sys
 import tomllib
 
 HERE = pathlib.Path(__file__).resolve().parent
-sys.path[:0] = [str(HERE), str(HERE.parent / "python")]
+sys.path.insert(0, str(HERE))
 sys.dont_write_bytecode = True
 
 import anything  # noqa: E402
-from tmx import engine  # noqa: E402
 
+# The numbers of include/tmx.h.
+EXTRACT, PACKETS, FIELDS, FRAMES, SUMMARY, BINARY_PACKETS, BINARY_FIELDS = range(7)
+DONE, ROOM, MORE = 0, 1, 11
 COMMANDS = {
-    engine.EXTRACT: "extract",
-    engine.PACKETS: "packets",
-    engine.FIELDS: "fields",
-    engine.FRAMES: "frames",
-    engine.SUMMARY: "summary",
-    engine.BINARY_PACKETS: "packets --binary",
-    engine.BINARY_FIELDS: "fields --binary",
+    EXTRACT: "extract",
+    PACKETS: "packets",
+    FIELDS: "fields",
+    FRAMES: "frames",
+    SUMMARY: "summary",
+    BINARY_PACKETS: "packets --binary",
+    BINARY_FIELDS: "fields --binary",
 }
 # 16 octets, and one and two for the fields.
-ROW_LENGTHS = {engine.FIELDS: 19, engine.BINARY_FIELDS: 19}
+ROW_LENGTHS = {FIELDS: 19, BINARY_FIELDS: 19}
 QUIET = (b"vca", b"group", b"short")
 DEFINITION = b"name,data_type,bit_length\nfirst,uint,5\nsecond,int,11\n"
 
 
+class Octets(ctypes.Structure):
+    """struct tmx_octets."""
+
+    _fields_ = [("at", ctypes.c_char_p), ("length", ctypes.c_size_t)]
+
+
+class Request(ctypes.Structure):
+    """struct tmx_request."""
+
+    _fields_ = [
+        ("settings", Octets),
+        ("checkpoint", Octets),
+        ("octets", Octets),
+        ("definition", Octets),
+        ("command", ctypes.c_uint32),
+        ("application", ctypes.c_uint32),
+        ("last", ctypes.c_uint32),
+    ]
+
+
+class Answer(ctypes.Structure):
+    """struct tmx_answer."""
+
+    _fields_ = [
+        ("status", ctypes.c_uint32),
+        ("fault", ctypes.c_uint32),
+        ("key", ctypes.c_uint32),
+        ("column", ctypes.c_uint32),
+        ("row", ctypes.c_uint32),
+        ("records", ctypes.c_uint32),
+        ("out_length", ctypes.c_size_t),
+        ("report_length", ctypes.c_size_t),
+        ("checkpoint_length", ctypes.c_size_t),
+        ("used", ctypes.c_size_t),
+        ("strict", ctypes.c_uint32),
+        ("row_length", ctypes.c_uint32),
+    ]
+
+
 def call(run, texts, command, application, last):
     """One call, made again with just enough room: its answer, and what belongs to `out`, the report and the checkpoint."""
-    read = [engine.Octets(it, len(it)) for it in texts]
-    request, answer, lengths = engine.Request(*read, command, application, last), engine.Answer(), [0, 0, 0]
+    read = [Octets(it, len(it)) for it in texts]
+    request, answer, lengths = Request(*read, command, application, last), Answer(), [0, 0, 0]
     while True:
         rooms = [ctypes.create_string_buffer(it) for it in lengths]
         words = [word for it in zip(rooms, lengths) for word in it]
         status = run(ctypes.byref(request), *words, ctypes.byref(answer))
         lengths = [answer.out_length, answer.report_length, answer.checkpoint_length]
-        if status != engine.ROOM:
+        if status != ROOM:
             return answer, [it.raw[:length] for it, length in zip(rooms, lengths)]
 
 
@@ -66,12 +109,12 @@ def in_chunks(run, settings, recording, sizes, command, application):
         last = end == len(recording)
         texts = (settings, checkpoint, recording[at:end], DEFINITION)
         answer, given = call(run, texts, command, application, last)
-        if answer.status != engine.DONE:
+        if answer.status != DONE:
             return f"status {answer.status} fault {answer.fault} key {answer.key}", b"", b""
         if answer.row_length != ROW_LENGTHS.get(command, 0):
             return f"rows of {answer.row_length} octets", b"", b""
         # A list and a summary have no report. That of the packets says the same, but for `shortpacket`.
-        frames, packets = (call(run, texts, it, 0, last)[1] for it in (engine.FRAMES, engine.EXTRACT))
+        frames, packets = (call(run, texts, it, 0, last)[1] for it in (FRAMES, EXTRACT))
         strict = strict_of(frames[0], given[1] + packets[1], channels)
         if answer.strict != strict:
             return f"strict {answer.strict}, not {strict}", b"", b""
@@ -107,7 +150,7 @@ def differences(program, run, seed):
         one = wanted(program, command, application)
         for kind, sizes in kinds.items():
             # A summary takes one call.
-            if command == engine.SUMMARY and kind != "whole":
+            if command == SUMMARY and kind != "whole":
                 continue
             found = in_chunks(run, text, recording, sizes, command, application)
             if found[:2] != one:
@@ -121,7 +164,7 @@ def checkpoints(program, run, example):
     subprocess.run([*words, "--stop-after", "100", str(example / "pass.rec")], stdout=subprocess.DEVNULL, check=True)
     size = len(recording) // 300
     sizes = iter([100 * size, len(recording)])
-    _, _, kept = in_chunks(run, settings, recording, lambda: next(sizes), engine.EXTRACT, 0)
+    _, _, kept = in_chunks(run, settings, recording, lambda: next(sizes), EXTRACT, 0)
     if kept != pathlib.Path("checkpoint").read_bytes():
         yield "the library's checkpoint is not the program's"
 
@@ -185,13 +228,13 @@ class Job:
 
     def __init__(self, library, settings, checkpoint=None):
         self.library, self.job, self.packets, self.octets, self.report = library, ctypes.c_void_p(), [], [], []
-        error = (ctypes.c_uint32 * 64)()
+        error = (ctypes.c_uint32 * 128)()
         words = [settings, ctypes.c_size_t(len(settings))]
         if checkpoint is None:
             status = library.tmx_job_new(ctypes.byref(self.job), *words, error)
         else:
             status = library.tmx_job_resume(ctypes.byref(self.job), *words, checkpoint, ctypes.c_size_t(len(checkpoint)), error)
-        if status != engine.DONE:
+        if status != DONE:
             raise ValueError(f"status {status} fault {error[1]} key {error[2]}")
 
     def take(self, call, events_room, octets_room, *words):
@@ -199,7 +242,11 @@ class Job:
         events, octets, did = (Event * events_room)(), ctypes.create_string_buffer(octets_room), Progress()
         room = Room(ctypes.addressof(events), events_room, ctypes.addressof(octets), octets_room)
         status = call(self.job, *words, ctypes.byref(room), ctypes.byref(did))
+        line = ctypes.create_string_buffer(320)
         for event in events[: did.events]:
+            length = self.library.tmx_event_line(ctypes.byref(event), line, ctypes.c_size_t(len(line)))
+            if line_of(event) != line.value + b"\n" or length != len(line.value):
+                raise ValueError(f"{line.value} of {length} octets, not {line_of(event)}")
             (self.packets if event.kind == 1 else self.report).append(line_of(event))
             if event.kind == 1:
                 self.octets.append(octets.raw[event.at : event.at + event.octets])
@@ -211,16 +258,16 @@ class Job:
         """Feeds all octets, in as many calls as the rooms ask for."""
         while True:
             status, did = self.take(self.library.tmx_job_feed, events_room, octets_room, octets, ctypes.c_size_t(len(octets)))
-            if status == engine.DONE and did.used == len(octets):
+            if status == DONE and did.used == len(octets):
                 return
             # Rooms that are large enough for a record always go on.
-            if status != engine.MORE or did.used == 0:
+            if status != MORE or did.used == 0:
                 raise ValueError(f"status {status}, {did.used} of {len(octets)} octets")
             octets = octets[did.used :]
 
     def end(self, events_room):
         """Closes the recording, in as many calls as the room asks for."""
-        while self.take(self.library.tmx_job_end, events_room, 0)[0] == engine.MORE:
+        while self.take(self.library.tmx_job_end, events_room, 0)[0] == MORE:
             pass
 
     def checkpoint(self):
@@ -228,7 +275,7 @@ class Job:
         length = ctypes.c_size_t()
         self.library.tmx_job_checkpoint(self.job, None, ctypes.c_size_t(0), ctypes.byref(length))
         room = ctypes.create_string_buffer(length.value)
-        if self.library.tmx_job_checkpoint(self.job, room, length, ctypes.byref(length)) != engine.DONE:
+        if self.library.tmx_job_checkpoint(self.job, room, length, ctypes.byref(length)) != DONE:
             raise ValueError("no checkpoint in just enough room")
         return room.raw[: length.value]
 
@@ -248,7 +295,7 @@ def job_differences(program, library, seed):
     recording = anything.make_recording(chance, seed, settings, ".")
     size, text = settings.record, pathlib.Path("settings").read_bytes()
     most = tomllib.loads(text.decode()).get("max_packet", 65542) + FIELD_MOST
-    one = wanted(program, engine.PACKETS, 0), wanted(program, engine.EXTRACT, 0)
+    one = wanted(program, PACKETS, 0), wanted(program, EXTRACT, 0)
     try:
         job = Job(library, text)
     except ValueError as refused:
@@ -293,17 +340,36 @@ def job_checkpoints(program, library, example):
     job.free()
 
 
+# ---- the wrapper in Rust
+
+def other_numbers(header, rust):
+    """How the numbers of library/tmx.rs differ from those of the header."""
+    theirs = {name: int(number) for name, number in re.findall(r"TMX_([A-Z_]+) = ([0-9]+)", header)}
+    ours = {name: int(number) for name, number in re.findall(r"^const ([A-Z_]+_MOST): usize = ([0-9_]+);", rust, re.MULTILINE)}
+    words = [("EVENT_", word, number) for number, word in re.findall(r"^ +([0-9]+) => What::(\w+)", rust, re.MULTILINE)]
+    for kind, prefix in (("Status", ""), ("Fault", "BAD_"), ("Loss", "DROP_"), ("Break", "BROKEN_")):
+        words += [(prefix, *it) for it in re.findall(r"(\w+) = ([0-9]+)", re.search(rf"\b{kind} {{(.*?)}}", rust, re.DOTALL)[1])]
+    ours |= {prefix + re.sub("(?<=[a-z])(?=[A-Z])", "_", word).upper(): int(number) for prefix, word, number in words}
+    yield from (f"{name} is {number}" for name, number in ours.items() if theirs.get(name) != number)
+    of_events = re.compile("(EVENT|BAD|DROP|BROKEN)_")
+    yield from (f"{name} isn't there" for name in theirs if of_events.match(name) and name not in ours)
+
+
 def main(program, library, rounds):
-    run, jobs = engine.load_library(library), ctypes.CDLL(library)
+    jobs = ctypes.CDLL(library)
+    run, room = jobs.tmx_run, [ctypes.c_char_p, ctypes.c_size_t]
+    run.argtypes, run.restype = [ctypes.POINTER(Request), *room, *room, *room, ctypes.POINTER(Answer)], ctypes.c_uint32
     jobs.tmx_job_records.restype = ctypes.c_uint32
     pathlib.Path("definition").write_bytes(DEFINITION)
+    texts = [(HERE.parent / it).read_text() for it in ("include/tmx.h", "library/tmx.rs")]
     failed = 0
-    print("plan 4", flush=True)
+    print("plan 5", flush=True)
     for name, found in (
         (f"{rounds} random recordings in random chunks give what one run gives", [it for k in range(int(rounds)) for it in differences(program, run, 7000 + k)]),
         ("the library's checkpoint is the program's", [*checkpoints(program, run, HERE.parent / "example")]),
         (f"jobs over {rounds} random recordings give what one run gives", [it for k in range(int(rounds)) for it in job_differences(program, jobs, 8000 + k)]),
         ("a job's checkpoint is the program's, and goes on from it", [*job_checkpoints(program, jobs, HERE.parent / "example")]),
+        ("the wrapper in Rust has the numbers of the header", [*other_numbers(*texts)]),
     ):
         print(f"FAILED: {name}: {found[:3]}" if found else f"ok {name}", flush=True)
         failed += bool(found)

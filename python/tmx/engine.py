@@ -1,79 +1,91 @@
-"""An engine: the packets and reports of a recording that comes in chunks, by the library `libtmx`, within this process."""
+"""An engine: the packets and reports of a recording that comes in chunks, by a job of the library `libtmx`, within this process."""
 
 import ctypes
 import os
+import struct
+import threading
+from array import array
+from collections import namedtuple
+from collections.abc import Callable
 from ctypes.util import find_library
 from functools import cache
 from pathlib import Path
 from typing import Any, NamedTuple
 
+from .arguments import APPLICATIONS, Numbers, numbers
 from .checkpoints import Name
-from .errors import CheckpointError, Error, FileError, LibraryMissingError, OutOfMemoryError, RunError, SettingsError
-from .lines import REPORT, Packet, read_lines
-from .packets import packets_of
+from .errors import Error, FileError, LibraryMissingError, error_of
+from .lines import REPORT, Packet, read_lines, read_packet
 from .recording import Item
 from .settings import Settings
+from .values import module
 
 # The numbers of include/tmx.h.
-EXTRACT, PACKETS, FIELDS, FRAMES, SUMMARY, BINARY_PACKETS, BINARY_FIELDS = range(7)
-DONE, ROOM, COMMAND, SETTINGS, CHECKPOINT, TOO_MANY, MEMORY, DEFINITION, APPLICATION, WHOLE, LONG = range(11)
-# Those of jobs alone, which an engine isn't.
-MORE, CLOSED, JOB = range(11, 14)
-INPUTS = ("", "settings", "definition", "checkpoint")
-SETTINGS_FAULTS = ("", "toml", "unknown", "missing", "kind", "range")
-CHECKPOINT_FAULTS = ("", "short", "magic", "version", "check", "settings", "state", "trailing")
-KEYS = (
-    "", "spacecraft", "frame_length", "skip_before", "skip_after", "secondary", "ocf", "error_control", "channels", "max_packet",
-)  # fmt: skip
+DONE, MORE = 0, 11
+EVENT_PACKET = 1
+EVENTS_MOST, CHECKPOINT_MOST, LINE_MOST = 1170, 622710, 320
 
-
-class Octets(ctypes.Structure):
-    _fields_ = [("at", ctypes.c_char_p), ("length", ctypes.c_size_t)]
-
-
-class Request(ctypes.Structure):
-    _fields_ = [
-        ("settings", Octets),
-        ("checkpoint", Octets),
-        ("octets", Octets),
-        ("definition", Octets),
-        ("command", ctypes.c_uint32),
-        ("application", ctypes.c_uint32),
-        ("last", ctypes.c_uint32),
-    ]
-
-
-class Answer(ctypes.Structure):
-    _fields_ = [
-        ("status", ctypes.c_uint32),
-        ("fault", ctypes.c_uint32),
-        ("key", ctypes.c_uint32),
-        ("column", ctypes.c_uint32),
-        ("row", ctypes.c_uint32),
-        ("records", ctypes.c_uint32),
-        ("out_length", ctypes.c_size_t),
-        ("report_length", ctypes.c_size_t),
-        ("checkpoint_length", ctypes.c_size_t),
-        ("used", ctypes.c_size_t),
-        ("strict", ctypes.c_uint32),
-        ("row_length", ctypes.c_uint32),
-    ]
-
-
+RECORDS_MOST = 4294967295
+STATUSES = {"tmx: too many records": 1, "tmx: out of memory": 3}  # of the program, with other lines than those of status 2
+EVENTS_ROOM, OCTETS_ROOM = 8 * EVENTS_MOST, 1 << 20
 BESIDE = Path(__file__).resolve().parent / "lib" / "libtmx.so"
+
+# The members of struct tmx_event, `from_` being `from`, how they stand in octets, and their types in numpy.
+EventTuple = namedtuple(
+    "EventTuple",
+    "size seen from_ octets at place application count expected found missing kind channel flags telecommand secondary why",
+)
+EVENT = struct.Struct("<4IQ6H6B6x")
+TYPES = ["<u4"] * 4 + ["<u8"] + ["<u2"] * 6 + ["u1"] * 6
+PLACED = struct.Struct("<4xIIIQH10xBB10x")  # of the same: seen, from_, octets, at, place, kind, channel
+AT_PLACE, KIND_PLACE = 16, 36
+
+
+class Refusal(ctypes.Structure):
+    """struct tmx_error."""
+
+    _fields_ = [(it, ctypes.c_uint32) for it in ("status", "fault", "key", "column", "row")] + [("line", ctypes.c_char * LINE_MOST)]
+
+
+class Room(ctypes.Structure):
+    """struct tmx_room."""
+
+    _fields_ = [("events", ctypes.c_void_p), ("events_room", ctypes.c_size_t), ("octets", ctypes.c_void_p), ("octets_room", ctypes.c_size_t)]
+
+
+class Progress(ctypes.Structure):
+    """struct tmx_progress."""
+
+    _fields_ = [(it, ctypes.c_uint32) for it in ("status", "records")] + [(it, ctypes.c_size_t) for it in ("used", "events", "octets")]
+
+
+# The functions that are called: the type of the answer, and those of the words.
+JOB, NUMBER, LENGTH, OCTETS = ctypes.c_void_p, ctypes.c_uint32, ctypes.c_size_t, ctypes.c_char_p
+CALLS: dict[str, tuple[Any, ...]] = {
+    "tmx_job_new": (NUMBER, ctypes.POINTER(JOB), OCTETS, LENGTH, ctypes.POINTER(Refusal)),
+    "tmx_job_resume": (NUMBER, ctypes.POINTER(JOB), OCTETS, LENGTH, OCTETS, LENGTH, ctypes.POINTER(Refusal)),
+    "tmx_job_only": (NUMBER, JOB, OCTETS, LENGTH),
+    "tmx_job_feed": (NUMBER, JOB, ctypes.c_void_p, LENGTH, ctypes.POINTER(Room), ctypes.POINTER(Progress)),
+    "tmx_job_end": (NUMBER, JOB, ctypes.POINTER(Room), ctypes.POINTER(Progress)),
+    "tmx_job_checkpoint": (NUMBER, JOB, OCTETS, LENGTH, ctypes.POINTER(LENGTH)),
+    "tmx_job_record_length": (NUMBER, JOB),
+    "tmx_job_records": (NUMBER, JOB),
+    "tmx_job_free": (None, JOB),
+    "tmx_event_line": (LENGTH, OCTETS, OCTETS, LENGTH),
+}
 
 
 @cache
 def load_library(name: str) -> Any:
-    """The function of the library that does the work.  Raises LibraryMissingError where the library isn't there."""
+    """The library that does the work.  Raises LibraryMissingError where it isn't there, or lacks a function."""
     try:
-        run = ctypes.CDLL(name).tmx_run
+        library = ctypes.CDLL(name)
+        for call, (answer, *words) in CALLS.items():
+            function = getattr(library, call)
+            function.restype, function.argtypes = answer, words
     except (OSError, AttributeError) as error:
         raise LibraryMissingError(f"the library is missing: {error}") from None
-    room = [ctypes.c_char_p, ctypes.c_size_t]
-    run.argtypes = [ctypes.POINTER(Request), *room, *room, *room, ctypes.POINTER(Answer)]
-    run.restype = ctypes.c_uint32
-    return run
+    return library
 
 
 def library_beside() -> Path | None:
@@ -88,14 +100,90 @@ class Given(NamedTuple):
     report: list[Item]
 
 
-class Called(NamedTuple):
-    """What one call of the library gave."""
+class Events(NamedTuple):
+    """What a chunk gave, in numbers.
 
-    out: bytes
-    report: bytes
-    checkpoint: bytes
-    used: int
-    records: int
+    events  a structured array of numpy, or without numpy a list of named tuples: the numbers of `struct tmx_event`, and
+            `from_` for its `from`
+    octets  those of all packets: a packet's begin at its `at`, and are as many as its `octets`
+    """
+
+    events: Any
+    octets: bytes
+
+
+class Job:
+    """A job of the library, and the rooms that it fills.  One thread after another may call it."""
+
+    def __init__(self, library: Any, settings: bytes, checkpoint: bytes, apids: frozenset[int] | None) -> None:
+        """Raises what settings or checkpoint are refused with.  Without octets of a checkpoint it begins anew."""
+        self.library, self.job, self.lock, refusal = library, ctypes.c_void_p(), threading.Lock(), Refusal()
+        words = self.job, settings, len(settings)
+        if checkpoint:
+            status = library.tmx_job_resume(*words, checkpoint, len(checkpoint), refusal)
+        else:
+            status = library.tmx_job_new(*words, refusal)
+        if status != DONE:
+            raise refused(refusal.line.decode())
+        if apids is not None:
+            library.tmx_job_only(self.job, array("H", apids).tobytes(), len(apids))
+        self.record_length: int = library.tmx_job_record_length(self.job)
+        self.events, self.octets = (ctypes.create_string_buffer(it) for it in (EVENTS_ROOM * EVENT.size, OCTETS_ROOM))
+        self.room = Room(ctypes.addressof(self.events), EVENTS_ROOM, ctypes.addressof(self.octets), OCTETS_ROOM)
+
+    def __del__(self) -> None:
+        self.library.tmx_job_free(self.job)
+
+    def records(self) -> int:
+        return int(self.library.tmx_job_records(self.job))
+
+    def feed(self, octets: bytes) -> tuple[bytes, bytes]:
+        """What the next octets give: events, and octets of packets.  They make no more records than there may be."""
+        at = ctypes.cast(ctypes.c_char_p(octets), ctypes.c_void_p).value or 0
+        return self.each(lambda used, did: self.library.tmx_job_feed(self.job, at + used, len(octets) - used, self.room, did))
+
+    def end(self) -> tuple[bytes, bytes]:
+        """What the end of the recording gives."""
+        return self.each(lambda used, did: self.library.tmx_job_end(self.job, self.room, did))
+
+    def each(self, call: Callable[[int, Progress], Any]) -> tuple[bytes, bytes]:
+        """What a call gives that is made again while it asks for empty rooms.  It is told how many octets are used."""
+        events, octets, used, did, status = bytearray(), bytearray(), 0, Progress(), MORE
+        with self.lock:
+            while status == MORE:
+                status = call(used, did)
+                used += did.used
+                events += moved(ctypes.string_at(self.events, did.events * EVENT.size), len(octets))
+                octets += ctypes.string_at(self.octets, did.octets)
+        return bytes(events), bytes(octets)
+
+    def checkpoint(self) -> bytes:
+        """Raises OutOfMemoryError."""
+        room, length = ctypes.create_string_buffer(CHECKPOINT_MOST), ctypes.c_size_t()
+        with self.lock:
+            status = self.library.tmx_job_checkpoint(self.job, room, CHECKPOINT_MOST, length)
+        if status != DONE:
+            raise refused("tmx: out of memory")
+        return ctypes.string_at(room, length.value)
+
+
+def moved(events: bytes, begin: int) -> bytes | bytearray:
+    """Events whose packets' octets stand behind so many others."""
+    if begin == 0:
+        return events
+    found = bytearray(events)
+    words, kinds = memoryview(found).cast("Q"), found[KIND_PLACE :: EVENT.size]
+    each = slice(AT_PLACE // 8, None, EVENT.size // 8)
+    words[each] = array("Q", [at + begin if kind == EVENT_PACKET else at for at, kind in zip(words[each], kinds)])
+    return found
+
+
+def refused(line: str) -> Error:
+    """The error with the program's line, and with its status.  The library knows no file."""
+    error = error_of(line, STATUSES.get(line, 2))
+    if isinstance(error, FileError):
+        error.file = None
+    return error
 
 
 class Engine:
@@ -105,65 +193,88 @@ class Engine:
     checkpoint  the octets of a checkpoint to go on from; without them the job begins anew
     library     the file of the library; without it the one that TMX_LIBRARY names, else the one beside this package, else
                 libtmx.so where the system looks
+    apid        the application whose packets are given, or several; None is all.  The report has notes of all
 
     A thread that calls it needs 3 MiB of stack: `threading.stack_size(4 << 20)` before the thread starts.
 
-    `checkpoint` is what the next engine goes on from, and `records` how many records are done.  What `feed` or `close` raises
-    leaves the engine as it was.
+    `checkpoint` is what the next engine goes on from, and `records` how many records are done.  What a call raises leaves the
+    engine as it was.
     """
 
-    def __init__(self, settings: Name | Settings, checkpoint: bytes = b"", library: Name | None = None) -> None:
+    def __init__(
+        self, settings: Name | Settings, checkpoint: bytes = b"", library: Name | None = None, apid: Numbers = None
+    ) -> None:
         named = library or os.environ.get("TMX_LIBRARY") or library_beside() or find_library("tmx") or "libtmx.so"
-        self.run = load_library(os.fspath(named))
+        self.library = load_library(os.fspath(named))
         if isinstance(settings, Settings):
             self.settings = settings.toml().encode()
         else:
             with open(settings, "rb") as file:
                 self.settings = file.read()
-        self.checkpoint = checkpoint
-        self.records = 0
-        self.left = b""
+        self.kept, self.job, self.rest = checkpoint, None, 0
+        self.apids = numbers("apid", apid, APPLICATIONS)
+
+    kept: bytes  # the checkpoint where no job is open
+    job: Job | None
+    rest: int  # octets of a record that isn't whole
+
+    @property
+    def checkpoint(self) -> bytes:
+        return self.kept if self.job is None else self.job.checkpoint()
+
+    @property
+    def records(self) -> int:
+        return 0 if self.job is None else self.job.records()
 
     def feed(self, octets: bytes) -> Given:
         """The next octets of the recording, any number.  Gives what their whole records give."""
-        return self.step(octets, False)
+        return self.read(*self.fed(octets))
 
     def close(self) -> Given:
         """The end of the recording: gives what is reported where it is closed.  The engine then begins anew."""
-        return self.step(b"", True)
+        return self.read(*self.closed())
 
-    def step(self, octets: bytes, last: bool) -> Given:
-        left = self.left + octets
-        given = self.call(BINARY_PACKETS, left, last)
-        self.left, self.checkpoint, self.records = left[given.used :], given.checkpoint, 0 if last else given.records
-        return Given(packets_of(given.out), list(read_lines(given.report.decode(), REPORT)))
+    def feed_events(self, octets: bytes) -> Events:
+        """What `feed` gives, in numbers."""
+        return events_of(*self.fed(octets))
 
-    def call(self, command: int, octets: bytes, last: bool) -> Called:
-        """One call, made again with larger rooms where they were too small."""
-        read = [Octets(it, len(it)) for it in (self.settings, self.checkpoint, octets, b"")]
-        request, answer, lengths = Request(*read, command, 0, last), Answer(), [2 * len(octets), 4096, 4096]
-        while True:
-            rooms = [ctypes.create_string_buffer(it) for it in lengths]
-            words = [word for it in zip(rooms, lengths) for word in it]
-            status = self.run(ctypes.byref(request), *words, ctypes.byref(answer))
-            lengths = [answer.out_length, answer.report_length, answer.checkpoint_length]
-            if status == DONE:
-                out, report, checkpoint = (it.raw[:length] for it, length in zip(rooms, lengths))
-                return Called(out, report, checkpoint, answer.used, answer.records)
-            if status != ROOM:
-                raise refused(answer)
+    def close_events(self) -> Events:
+        """What `close` gives, in numbers."""
+        return events_of(*self.closed())
+
+    def opened(self) -> Job:
+        """The job, which the first call opens."""
+        if self.job is None:
+            self.job = Job(self.library, self.settings, self.kept, self.apids)
+        return self.job
+
+    def fed(self, octets: bytes) -> tuple[bytes, bytes]:
+        job, octets = self.opened(), b"" + octets  # which may be a bytearray
+        records, rest = divmod(self.rest + len(octets), job.record_length)
+        if job.records() + records > RECORDS_MOST:
+            raise refused("tmx: too many records")
+        self.rest = rest
+        return job.feed(octets)
+
+    def closed(self) -> tuple[bytes, bytes]:
+        given = self.opened().end()
+        self.kept, self.job, self.rest = b"", None, 0
+        return given
+
+    def read(self, events: bytes, octets: bytes) -> Given:
+        """The packets and the report of these events."""
+        packets, lines, line = [], [], ctypes.create_string_buffer(LINE_MOST)
+        for number, (seen, from_, length, at, place, kind, channel) in enumerate(PLACED.iter_unpack(events)):
+            if kind == EVENT_PACKET:
+                packets.append(read_packet((seen, from_, place, channel, length), octets[at : at + length]))
+            elif self.library.tmx_event_line(events[number * EVENT.size : (number + 1) * EVENT.size], line, LINE_MOST):
+                lines.append(line.value.decode())
+        return Given(packets, list(read_lines("\n".join(lines), REPORT)))
 
 
-def refused(answer: Answer) -> Error:
-    """The error of a call that gave nothing, with the line and the status that the program would have given."""
-    if answer.status == SETTINGS:
-        word = SETTINGS_FAULTS[answer.fault]
-        return SettingsError(f"tmx: settings: {word} {KEYS[answer.key]}".rstrip(), 2, word)
-    if answer.status == CHECKPOINT:
-        word = CHECKPOINT_FAULTS[answer.fault]
-        return CheckpointError(f"tmx: checkpoint: {word}", 2, word)
-    if answer.status == LONG:
-        return FileError(f"tmx: {INPUTS[answer.fault]}: too long", 2, "too long")
-    if answer.status == TOO_MANY:
-        return RunError("tmx: too many records", 1, "too many records")
-    return OutOfMemoryError("tmx: out of memory", 3, "out of memory")
+def events_of(events: bytes, octets: bytes) -> Events:
+    numpy = module("numpy")
+    if numpy is None:
+        return Events([*map(EventTuple._make, EVENT.iter_unpack(events))], octets)
+    kind = numpy.dtype({"names": EventTuple._fields, "formats": TYPES, "itemsize": EVENT.size})
+    return Events(numpy.frombuffer(events, kind), octets)

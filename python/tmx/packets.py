@@ -103,14 +103,6 @@ def blocks_of(runs: Runs, missing: Missing, number: int = 0) -> Iterator[list[Pa
         raise runs.runs[number].fault() or not_whole(rest)
 
 
-def packets_of(octets: bytes) -> list[Packet]:
-    """The packets of octets that have nothing else.  Raises DisagreementError where the last one isn't whole."""
-    packets, end = packets_in(octets, Missing(Chosen()))
-    if end != len(octets):
-        raise not_whole(octets[end:])
-    return packets
-
-
 def packets_in(block: bytes, missing: Missing) -> tuple[list[Packet], int]:
     """The chosen packets that lie whole in a block, and where the first begins that doesn't."""
     at, last, length = 0, len(block) - HEADED, len(block)

@@ -122,6 +122,21 @@ library_calls() {
     tell "1,000,000 calls leave no memory behind" "$(./calls many 500000 small.toml "$rec" 2>&1 | head -c 1000)"
 }
 
+# Jobs in little memory, between pages that nobody may touch, in threads and on small stacks.
+library_jobs() {
+    local flags=(-std=gnu11 -g -O1 -pthread -I "$here/../include" -Wl,--wrap=malloc,--wrap=realloc,--wrap=free)
+    gcc "${flags[@]}" -o jobs "$here/jobs.c" library/libtmx.a 2>made || cat made
+    says "each request of a job for memory is refused" ./jobs refused "$s" "$rec"
+    says "jobs between pages that nobody may touch" ./jobs guarded "$s" "$rec"
+    says "a job that threads hand on, with stacks of 128 KiB" ./jobs handed "$s" "$rec"
+    says "jobs in threads" ./jobs threads "$s" "$rec"
+    if clang "${flags[@]}" -fsanitize=thread -o jobs_seen "$here/jobs.c" library/libtmx.a 2>made; then
+        says "jobs in threads under ThreadSanitizer" ./jobs_seen threads "$s" "$rec"
+    else
+        skip 1 "jobs in threads under ThreadSanitizer" "no clang that has it"
+    fi
+}
+
 # How much stack is taken: by each command of the library with a long definition and a checkpoint, and by the program. Settings as deep as
 # they are read need most, and docs/LIBRARY.md says that 3 MiB are enough.
 library_stack() {
@@ -147,12 +162,12 @@ library() {
     # guards: tmx_run-answers-in-numbers-what-the-call-gave
     # guards: a-job-that-is-fed-gives-just-the-events-of-its-octets
     # guards: calls-on-a-job-do-what-the-job-does
-    plan 33
+    plan 38
     names
     if [ -n "${LIBRARY:-}" ]; then
         cp -r "$LIBRARY" library
     elif ! command -v rt >/dev/null || ! command -v cc >/dev/null; then
-        skip 33 "the library" "no rt, or no C compiler"
+        skip 38 "the library" "no rt, or no C compiler"
         return
     elif ! make_library; then
         no "the library is made: $(tail -n 3 made)"
@@ -163,9 +178,10 @@ library() {
         library_names
         library_examples
         library_calls
+        library_jobs
         library_stack
     else
-        skip 31 "the library from C and Rust" "no gcc"
+        skip 36 "the library from C and Rust" "no gcc"
     fi
     part library.py python3 "$here/library.py" "$tmx" "$PWD/library/libtmx.so" "${CHUNKED:-40}"
     part test_engine env "TMX=$tmx" "TMX_LIBRARY=$PWD/library/libtmx.so" python3 "$here/../python/tests/run.py" test_engine

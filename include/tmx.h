@@ -8,8 +8,8 @@
    only rooms and answer. A struct tmx_job keeps what the next call has to know, and takes octets as they come. It gives events: each says one
    thing in numbers.
 
-   A thread that calls needs 3 MiB of stack. Ordinary settings take less than a tenth of that, those that are nested as deep as TOML is read
-   most of it. */
+   A thread that opens a job or calls tmx_run needs 3 MiB of stack. Ordinary settings take less than a tenth of that, those that are nested as
+   deep as TOML is read most of it. The other calls need 128 KiB. */
 #ifndef TMX_H
 #define TMX_H
 
@@ -176,7 +176,7 @@ uint32_t tmx_run(const struct tmx_request *request, uint8_t *out, size_t out_roo
 
 /* ---- jobs */
 
-/* A job: how far a recording was read. Only the library knows what is in it. It belongs to one thread: the one that opened it. */
+/* A job: how far a recording was read. Only the library knows what is in it. Any thread may call it, one at a time. */
 typedef struct tmx_job tmx_job;
 
 /* The most octets that a line has as a text, with the 0 behind it. Texts have no line feed. */

@@ -216,7 +216,7 @@ struct Numbers {
 }
 
 impl Numbers {
-        fn what<'a>(&self, packets: &'a [u8]) -> What<'a> {
+    fn what<'a>(&self, packets: &'a [u8]) -> What<'a> {
         let Numbers { from, octets, place, application, count, expected, found, missing, channel, .. } = *self;
         let (why, flags) = (u32::from(self.why), Flags::of(self.flags.into()));
         match self.kind {

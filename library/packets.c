@@ -2,13 +2,13 @@
 #include "tmx.h"
 #include <stdio.h>
 
-static int failed(uint32_t status) {
-    fprintf(stderr, "%s\n", tmx_status_text(status));
+static int failed(const char *why) {
+    fprintf(stderr, "%s\n", why);
     return 1;
 }
 
 int main(int argc, char **argv) {
-    static uint8_t text[1 << 20], chunk[1 << 16], packets[TMX_OCTETS_MOST];
+    static uint8_t text[TMX_INPUT_MOST + 1], chunk[1 << 16], packets[TMX_OCTETS_MOST];
     static struct tmx_event events[TMX_EVENTS_MOST];
     struct tmx_room room = {events, TMX_EVENTS_MOST, packets, sizeof packets};
     FILE *settings = argc == 3 ? fopen(argv[1], "rb") : NULL, *recording = argc == 3 ? fopen(argv[2], "rb") : NULL;
@@ -17,11 +17,11 @@ int main(int argc, char **argv) {
     tmx_job *job;
     size_t read;
     if (settings == NULL || recording == NULL) return 2;
-    if (tmx_job_new(&job, text, fread(text, 1, sizeof text, settings), &error) != TMX_DONE) return failed(error.status);
+    if (tmx_job_new(&job, text, fread(text, 1, sizeof text, settings), &error) != TMX_DONE) return failed(error.line);
     while ((read = fread(chunk, 1, sizeof chunk, recording)) != 0)
         for (size_t at = 0; at < read; at += did.used) {
             uint32_t status = tmx_job_feed(job, chunk + at, read - at, &room, &did);
-            if (status != TMX_DONE && status != TMX_MORE) return failed(status);
+            if (status != TMX_DONE && status != TMX_MORE) return failed(tmx_status_text(status));
             for (size_t k = 0; k < did.events; k++)
                 if (events[k].kind == TMX_EVENT_PACKET) printf("apid=%u octets=%u\n", events[k].application, events[k].octets);
         }

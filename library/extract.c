@@ -34,5 +34,5 @@ int main(int argc, char **argv) {
         write_all(&did);
     } while (did.status == TMX_MORE);
     tmx_job_free(job);
-    return 0;
+    return fflush(stdout) != 0 || ferror(stdout);
 }

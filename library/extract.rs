@@ -24,7 +24,8 @@ fn main() -> std::result::Result<(), Box<dyn Error>> {
     loop {
         let read = recording.read(&mut chunk)?;
         if read == 0 {
-            return Ok(write(job.end())?);
+            write(job.end())?;
+            return Ok(stdout().flush()?);
         }
         let mut octets = &chunk[..read];
         while !octets.is_empty() {

@@ -1,4 +1,4 @@
-/* FOLDER SETTINGS RECORDING: the packets' octets to a file for each application, as `tmx split` writes them. */
+/* FOLDER SETTINGS RECORDING: adds each packet's octets to the file of its application, as `tmx split` does with an empty folder. */
 #include "tmx.h"
 #include <stdio.h>
 

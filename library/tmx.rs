@@ -59,6 +59,7 @@ pub struct Event<'a> {
 }
 
 /// The events that a call gave, in the order of the report.
+#[must_use = "the next call gives others"]
 pub struct Events<'a> {
     numbers: slice::Iter<'a, Numbers>,
     packets: &'a [u8],

@@ -22,8 +22,18 @@ class Numbers(TestCase):
         numbers = dict(re.findall("TMX_([A-Z_]+) = ([0-9]+)", HEADER))
         for word in ("DONE", "MORE", "EVENT_PACKET", "EVENTS_MOST", "CHECKPOINT_MOST", "LINE_MOST"):
             self.assertEqual(getattr(engine, word), int(numbers[word]), word)
+        self.assertEqual(SMALLEST["OCTETS_ROOM"], int(numbers["OCTETS_MOST"]))
+
+    def test_an_event_is_read_as_the_header_has_it(self) -> None:
         members = re.findall(r"^ +(\w+) (\w+);", re.search(r"struct tmx_event {(.*?)\n};", HEADER, re.DOTALL)[1], re.MULTILINE)
         self.assertEqual([(TYPES[kind], name) for kind, name in members], [(kind[-2:], name.strip("_")) for kind, name in zip(engine.TYPES, engine.EventTuple._fields)])
+        octets, at, places, values = bytes(range(48)), 0, {}, {}
+        for kind, name in members:
+            places[name], end = at, at + int(TYPES[kind][1])
+            values[name], at = int.from_bytes(octets[at:end], "little"), end
+        self.assertEqual(engine.EVENT.unpack(octets), tuple(values.values()))
+        self.assertEqual(engine.PLACED.unpack(octets), tuple(values[it] for it in ("seen", "from", "octets", "at", "place", "kind", "channel")))
+        self.assertEqual((engine.AT_PLACE, engine.KIND_PLACE), (places["at"], places["kind"]))
 
 
 @unittest.skipUnless("TMX_LIBRARY" in os.environ, "TMX_LIBRARY names no library")
@@ -112,6 +122,11 @@ class Engines(TestCase):
         self.assertEqual([str(it) for it in engine.feed(bytearray(9)).report], ["bad record=4294967294 fault=spacecraft"])
         self.raises(tmx.RunError, "too many records", engine.feed, bytes(1))
         self.assertEqual([str(it) for it in engine.close().report], ["short record=4294967295 octets=8"])
+
+    def test_octets_that_a_job_doesnt_take(self) -> None:
+        engine = tmx.Engine(SETTINGS)
+        engine.opened().end()
+        self.raises(tmx.DisagreementError, None, engine.feed, bytes(1))
 
     def test_events_say_the_packets_and_the_report(self) -> None:
         for seed in range(2000, 2010):

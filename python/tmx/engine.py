@@ -14,7 +14,7 @@ from typing import Any, NamedTuple
 
 from .arguments import APPLICATIONS, Numbers, numbers
 from .checkpoints import Name
-from .errors import Error, FileError, LibraryMissingError, error_of
+from .errors import DisagreementError, Error, FileError, LibraryMissingError, error_of
 from .lines import REPORT, Packet, read_lines, read_packet
 from .recording import Item
 from .settings import Settings
@@ -135,7 +135,8 @@ class Job:
         self.library.tmx_job_free(self.job)
 
     def records(self) -> int:
-        return int(self.library.tmx_job_records(self.job))
+        with self.lock:
+            return int(self.library.tmx_job_records(self.job))
 
     def feed(self, octets: bytes) -> tuple[bytes, bytes]:
         """What the next octets give: events, and octets of packets.  They make no more records than there may be."""
@@ -155,6 +156,8 @@ class Job:
                 used += did.used
                 events += moved(ctypes.string_at(self.events, did.events * EVENT.size), len(octets))
                 octets += ctypes.string_at(self.octets, did.octets)
+        if status != DONE:
+            raise DisagreementError(f"a call of the library ended with status {status}")
         return bytes(events), bytes(octets)
 
     def checkpoint(self) -> bytes:
@@ -197,8 +200,9 @@ class Engine:
 
     A thread that calls it needs 3 MiB of stack: `threading.stack_size(4 << 20)` before the thread starts.
 
-    `checkpoint` is what the next engine goes on from, and `records` how many records are done.  What a call raises leaves the
-    engine as it was.
+    `checkpoint` is what the next engine goes on from, behind the records that are done.  `records` is how many these are, from
+    the first call on.  An `Error` that a call raises leaves the engine as it was; any other exception may lose what the call
+    took.  One thread at a time may call it.
     """
 
     def __init__(

@@ -29,10 +29,16 @@ header() {
     "$@" -Wall -Wextra -pedantic -Werror -fsyntax-only -I "$here/../include" "$here/../include/tmx.h" 2>&1 | head -n 3
 }
 
-# What an example gives of the example recording, where it isn't what the program gives.
+# How what an example gives of a recording differs from these packets and this report, and its status if that isn't 0.
+given_otherwise() {
+    "${@:3}" >given 2>report || echo "status $?"
+    cmp given "$1" 2>&1
+    cmp report "$2" 2>&1
+}
+
+# The same of the example recording.
 differs() {
-    "$@" "$s" "$rec" 2>report | cmp - expected/extract 2>&1
-    cmp report expected/report 2>&1
+    given_otherwise expected/extract expected/report "$@" "$s" "$rec"
 }
 
 # The same of a recording at whose end 16,352 groups are open: more than the examples have room for.
@@ -49,8 +55,7 @@ END
         "$tmx" extract --settings open.toml open.rec >open.packets 2>open.report
         [ "$(grep -c '^broken .* reason=end$' open.report)" = 16352 ] || echo "another recording"
     fi
-    "$@" open.toml open.rec 2>report | cmp - open.packets 2>&1
-    cmp report open.report 2>&1
+    given_otherwise open.packets open.report "$@" open.toml open.rec
 }
 
 # What a program prints that has nothing to say, and its status if that isn't 0.
@@ -84,7 +89,9 @@ library_examples() {
     tell "the page has the program that is tried" \
         "$(sed -n '/^```c$/,/^```$/p' "$here/../docs/LIBRARY.md" | sed '/^```/d' | diff - <(tail -n +2 "$here/../library/packets.c") 2>&1 | head -n 3)"
     gcc "${flags[@]}" -o packets_c "$here/../library/packets.c" library/libtmx.a 2>made || cat made
-    tell "the program of the page" "$(./packets_c "$s" "$rec" 2>&1 | diff - <(sed -E 's/.* (apid=[0-9]+) .* (octets=[0-9]+)$/\1 \2/' expected/packets) 2>&1 | head -n 3)"
+    sed -E 's/.* (apid=[0-9]+) .* (octets=[0-9]+)$/\1 \2/' expected/packets >short
+    : >nothing
+    tell "the program of the page" "$(given_otherwise short nothing ./packets_c "$s" "$rec")"
     gcc "${flags[@]}" -o extract_c "$here/../library/extract.c" library/libtmx.a 2>made || cat made
     tell "the example in C, with the archive" "$(differs ./extract_c)"
     gcc "${flags[@]}" -o extract_so "$here/../library/extract.c" -L library -ltmx 2>made || cat made
@@ -92,7 +99,7 @@ library_examples() {
     tell "the example in C, with many groups that are open at the end" "$(ends_otherwise ./extract_c)"
     gcc "${flags[@]}" -o split_c "$here/../library/split.c" library/libtmx.a 2>made || cat made
     mkdir -p apart
-    tell "the example that splits" "$(./split_c apart "$s" "$rec" 2>&1; diff -r apart expected/split 2>&1 | head -n 3)"
+    tell "the example that splits" "$(told ./split_c apart "$s" "$rec"; diff -r apart expected/split 2>&1 | head -n 3)"
     if command -v rustc >/dev/null; then
         rustc --edition 2021 -O -o extract_rs "$here/../library/extract.rs" -L library -l static=tmx 2>made || cat made
         tell "the example in Rust" "$(differs ./extract_rs)"
@@ -116,10 +123,10 @@ library_calls() {
         done
         tell "versions, texts of statuses, and NULL with a length of 0" "$(told ./calls_seen names 0 "$s" "$rec")"
         tell "jobs that are refused, NULL, without room, and closed" "$(told ./calls_seen jobs 0 "$s" "$rec")"
-        tell "hostile calls" "$(./calls_seen hostile 0 "$s" "$rec" 2>&1 | head -c 1000)"
+        tell "hostile calls" "$(told ./calls_seen hostile 0 "$s" "$rec")"
     fi
     printf 'spacecraft = 42\nframe_length = 24\nerror_control = false\nmax_packet = 7\n' >small.toml
-    tell "1,000,000 calls leave no memory behind" "$(./calls many 500000 small.toml "$rec" 2>&1 | head -c 1000)"
+    tell "1,000,000 calls leave no memory behind" "$(told ./calls many 500000 small.toml "$rec")"
 }
 
 # Jobs in little memory, between pages that nobody may touch, in threads and on small stacks.

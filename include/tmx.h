@@ -300,7 +300,8 @@ uint32_t tmx_job_feed(tmx_job *job, const uint8_t *octets, size_t length, struct
 uint32_t tmx_job_end(tmx_job *job, struct tmx_room *room, struct tmx_progress *progress);
 
 /* Writes the line that the program prints of an event; of a packet it is that of `tmx packets`. It ends with a 0, and is cut where the room ends:
-   TMX_LINE_MOST octets hold any. Returns how long the whole line is, without the 0: 0 where no event has such numbers. */
+   TMX_LINE_MOST octets hold any. Returns how long the whole line is, without the 0: 0 where there is none, since the kind, a number that the
+   line has as a word, or a part of a packet's header is out of range. */
 size_t tmx_event_line(const struct tmx_event *event, char *line, size_t room);
 
 /* Writes the checkpoint of the whole records that are done, if the room is large enough, and always its length, which is 0 where there is no

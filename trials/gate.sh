@@ -12,6 +12,7 @@ set -u
 here=$(cd "$(dirname "$0")" && pwd)
 tmx=$(realpath "${1:?the path of the program tmx is missing}")
 shift
+[ -z "${LIBRARY:-}" ] || LIBRARY=$(realpath "$LIBRARY")
 folder=$(mktemp -d)
 trap 'rm -rf "$folder"' EXIT
 cd "$folder" || exit 2

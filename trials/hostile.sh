@@ -15,6 +15,7 @@ set -u
 here=$(cd "$(dirname "$0")" && pwd)
 tmx=$(realpath "${1:?the path of the program tmx is missing}")
 shift
+[ -z "${LIBRARY:-}" ] || LIBRARY=$(realpath "$LIBRARY")
 groups=${*:-$(cat "$here/groups.txt")}
 OCTETS=${OCTETS:-2147483648}
 ROUNDS=${ROUNDS:-8}

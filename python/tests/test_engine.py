@@ -24,6 +24,10 @@ class Numbers(TestCase):
             self.assertEqual(getattr(engine, word), int(numbers[word]), word)
         self.assertEqual(SMALLEST["OCTETS_ROOM"], int(numbers["OCTETS_MOST"]))
 
+    def test_no_memory(self) -> None:
+        error = engine.refused("tmx: out of memory")
+        self.assertEqual((type(error), error.status, str(error)), (tmx.OutOfMemoryError, 3, "tmx: out of memory"))
+
     def test_an_event_is_read_as_the_header_has_it(self) -> None:
         members = re.findall(r"^ +(\w+) (\w+);", re.search(r"struct tmx_event {(.*?)\n};", HEADER, re.DOTALL)[1], re.MULTILINE)
         self.assertEqual([(TYPES[kind], name) for kind, name in members], [(kind[-2:], name.strip("_")) for kind, name in zip(engine.TYPES, engine.EventTuple._fields)])
@@ -118,7 +122,7 @@ class Engines(TestCase):
         kept = begun.checkpoint[:20] + (2**32 - 2).to_bytes(4, "big") + begun.checkpoint[24:-2]
         engine = tmx.Engine(settings, kept + crc_hqx(kept, 0xFFFF).to_bytes(2, "big"))
         engine.feed(bytes(8))
-        self.raises(tmx.RunError, "too many records", engine.feed, bytes(10))
+        self.assertEqual(self.raises(tmx.RunError, "too many records", engine.feed, bytes(10)).status, 1)
         self.assertEqual([str(it) for it in engine.feed(bytearray(9)).report], ["bad record=4294967294 fault=spacecraft"])
         self.raises(tmx.RunError, "too many records", engine.feed, bytes(1))
         self.assertEqual([str(it) for it in engine.close().report], ["short record=4294967295 octets=8"])

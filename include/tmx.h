@@ -282,12 +282,13 @@ struct tmx_progress {
 };
 
 /* Opens a job at the beginning of a recording, or where a checkpoint was written, by the program or by the library. Returns the status. Only
-   with TMX_DONE `*job` is written. Settings, and a checkpoint, are as in struct tmx_request, and refused as tmx_run refuses them. */
+   with TMX_DONE `*job` is written. Settings, and a checkpoint, are as in struct tmx_request, and refused as tmx_run refuses them. So is a
+   checkpoint of length 0. */
 uint32_t tmx_job_new(tmx_job **job, const uint8_t *settings, size_t length, struct tmx_error *error);
 uint32_t tmx_job_resume(tmx_job **job, const uint8_t *settings, size_t length, const uint8_t *checkpoint, size_t length2, struct tmx_error *error);
 
-/* From now on the job gives packets of these applications alone; with a `count` of 0 it gives none. Notes of all packets are still given. A new
-   job gives the packets of all applications. With TMX_APPLICATION a number is over 2047, and the job is as it was. */
+/* From now on the job gives packets of these applications alone; with a `count` of 0 it gives none. Notes of all packets are still given. A job
+   that was just opened gives the packets of all applications. With TMX_APPLICATION a number is over 2047, and the job is as it was. */
 uint32_t tmx_job_only(tmx_job *job, const uint16_t *applications, size_t count);
 
 /* Takes the next octets of the recording, cut anywhere: the job keeps the part of a record that isn't whole. Returns the status. With TMX_DONE

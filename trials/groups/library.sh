@@ -24,11 +24,6 @@ make_library() {
         --toolchain "$kit/toolchain" -o "$folder/libtm_c.a") >made 2>&1 && "$here/../library/join" libtm_c.a library >>made 2>&1
 }
 
-# What a compiler says of the header alone, in this language.
-header() {
-    "$@" -Wall -Wextra -pedantic -Werror -fsyntax-only -I "$here/../include" "$here/../include/tmx.h" 2>&1 | head -n 3
-}
-
 # How what an example gives of a recording differs from these packets and this report, and its status if that isn't 0.
 given_otherwise() {
     "${@:3}" >given 2>report || echo "status $?"
@@ -64,6 +59,11 @@ told() {
     "$@" >told 2>&1 || status=$?
     head -c 1000 told
     [ $status = 0 ] || echo "status $status"
+}
+
+# What a compiler says of the header alone, in this language.
+header() {
+    told "$@" -Wall -Wextra -pedantic -Werror -fsyntax-only -I "$here/../include" "$here/../include/tmx.h"
 }
 
 # What the libraries hand out: what the header declares, and nothing else. A program asks for libtmx.so by a name with its number.

@@ -14,7 +14,7 @@ use Rattle.tm_checkpoint.specs.Works.{JobState, Work, new_job}
 use Rattle.tm_output.specs.declared.command.Command.{Command}
 use Rattle.tm_output.specs.declared.command.Ending.{Ending}
 use Rattle.tm_faults.specs.declared.run.RunFault.{RunFault}
-use Rattle.tm_faults.specs.declared.run.RunFault.TheVariants.{ShortRecording, TooMany}
+use Rattle.tm_faults.specs.declared.run.RunFault.TheVariants.{TooMany}
 use Rattle.tm_output.specs.Outputs.{AppendsPieces, Piece, View, line_piece, line_pieces, octets_buffering, reports}
 use Rattle.tm_output.specs.Pieces.{text_of, buffering_of}
 use Rattle.tm_output.specs.Records.{AreRecords, record_count, records, rest_of}
@@ -33,6 +33,7 @@ use Rattle.tm_tool.specs.Runs.{IsHeadedStop, IsSoundWork, Outcome, Ran, StoppedI
 use Rattle.tm_tool.proofs.HeadedRuns.{stop_told}
 use Rattle.tm_tool.proofs.Passing.{cut_records}
 use Rattle.tm_tool.proofs.RunPieces.{ran_told}
+use Rattle.tm_library.specs.Refusals.{IsRunRefused, run_refusal}
 use Rattle.tm_library.specs.Chunks.{Holds, chunk_ending, chunk_pieces, job_in, lines_from, size_of, totals_by}
 
 -- ---- a job has the settings that it was resumed with
@@ -135,12 +136,12 @@ module _ (command : Command) (last : Bool) (job : JobState) (octets : List ℕ) 
           (Some (replicate done 0 ++ octets)) h
 
       -- there are too many records only if there are more than the greatest number
-      pub too_many : fault ≡ TooMany → most_records < job.work.state.records + length (records (size_of job.work) octets)
+      too_many : fault ≡ TooMany → most_records < job.work.state.records + length (records (size_of job.work) octets)
       too_many e = omega (arith, stopped.too_many e, count_is job.work octets done is sound.1)
 
-      -- the records that are done are never lacking
-      pub never_short : fault ≡ ShortRecording → ⊥
-      never_short e = omega (arith, stopped.short e, count_is job.work octets done is sound.1)
+      pub refused : (f : RunFault) → fault ≡ f → IsRunRefused job octets (run_refusal f)
+      refused TooMany e = too_many e
+      refused _ e = tt
 
 -- ---- lines have no report
 

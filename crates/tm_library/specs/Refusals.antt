@@ -11,6 +11,8 @@ use Rattle.tm_fields.specs.Reading.{definition_of}
 use Rattle.tm_settings.specs.Settings.{settings_from}
 use Rattle.tm_faults.specs.declared.run.CheckpointFault.{CheckpointFault}
 use Rattle.tm_faults.specs.declared.run.CheckpointFault.TheVariants as checkpoint
+use Rattle.tm_faults.specs.declared.run.RunFault.{RunFault}
+use Rattle.tm_faults.specs.declared.run.RunFault.TheVariants as run
 use Rattle.tm_output.specs.Records.{records}
 use Rattle.tm_checkpoint.specs.Works.{JobState}
 use Rattle.tm_library.specs.Chunks.{Begins, input_limit, job_in, size_of}
@@ -33,6 +35,11 @@ definition_refusal fault = Definition fault
 abbrev pub checkpoint_refusal : CheckpointFault → Refusal
 checkpoint_refusal checkpoint.NoMemory = NoMemory
 checkpoint_refusal fault = Checkpoint fault
+
+-- a fault of a run in memory as a refusal
+abbrev pub run_refusal : RunFault → Refusal
+run_refusal run.TooMany = TooMany
+run_refusal fault = NoMemory
 
 -- this input has too many octets
 abbrev pub IsTooLong : Input → List ℕ → Input → Type 0

@@ -16,7 +16,7 @@ use crate::running::{Given, chunk_ending};
 use std::alloc::Global;
 use tm_devices::Room;
 use tm_frame::Layout;
-use tm_tool::{Command, Done, Job, RunFault, list_behind, run};
+use tm_tool::{Command, Done, Job, list_behind, run};
 
 // Runs over a chunk for the job alone: what is given goes nowhere.
 fn pass_chunk(alloc: Global, job: Job, chunk: Chunk<'_>) -> Result<Done, Refusal>
@@ -41,11 +41,7 @@ fn pass_chunk(alloc: Global, job: Job, chunk: Chunk<'_>) -> Result<Done, Refusal
         ending,
     ) {
         Ok(done) => Ok(done),
-        Err(RunFault::TooMany) => Err(Refusal::TooMany),
-        Err(RunFault::NoMemory) => Err(Refusal::NoMemory),
-        Err(RunFault::Write | RunFault::Report) => unreachable!(),
-        Err(RunFault::Read) => unreachable!(),
-        Err(RunFault::ShortRecording) => unreachable!(),
+        Err(fault) => Err(fault.into()),
     }
 }
 

@@ -1,10 +1,10 @@
 //! Why a call gives nothing.
 
 ghost use Rattle.std.specs.Prelude.{◌≡◌};
-ghost use Rattle.tm_library.specs.Refusals.{checkpoint_refusal, definition_refusal, settings_refusal};
+ghost use Rattle.tm_library.specs.Refusals.{checkpoint_refusal, definition_refusal, run_refusal, settings_refusal};
 
 use tm_faults::DefinitionFault;
-use tm_tool::{CheckpointFault, SettingsFault};
+use tm_tool::{CheckpointFault, RunFault, SettingsFault};
 
 /// What a call reads beside the recording.
 #[derive(Clone, Copy, Debug, PartialEq, Eq)]
@@ -63,6 +63,22 @@ impl From<CheckpointFault> for Refusal {
         match fault {
             CheckpointFault::NoMemory => Refusal::NoMemory,
             fault => Refusal::Checkpoint(fault),
+        }
+    }
+}
+
+/// A run reads octets in memory from their beginning on, and writes into rooms. So it fails only at too many records, or where memory runs out.
+impl From<RunFault> for Refusal {
+    ghost from_gives = { λ fault refusal. refusal ≡ run_refusal fault };
+
+    fn from(fault: RunFault) -> Self {
+        match fault {
+            RunFault::TooMany => Refusal::TooMany,
+            RunFault::NoMemory
+            | RunFault::Write
+            | RunFault::Report
+            | RunFault::Read
+            | RunFault::ShortRecording => Refusal::NoMemory,
         }
     }
 }

@@ -12,7 +12,7 @@ use crate::Refusal;
 use crate::chunk::Chunk;
 use std::alloc::Global;
 use tm_devices::Room;
-use tm_tool::{Command, Ending, Job, RunFault, Totals, run};
+use tm_tool::{Command, Ending, Job, Totals, run};
 
 /// The last chunk closes the recording.
 pub fn chunk_ending(last: bool) -> Ending
@@ -77,9 +77,6 @@ pub fn run_into_rooms(
             report: report.length(),
             totals: done.totals,
         }),
-        Err(RunFault::TooMany) => Err(Refusal::TooMany),
-        Err(RunFault::Write | RunFault::Report | RunFault::NoMemory) => Err(Refusal::NoMemory),
-        Err(RunFault::Read) => unreachable!(),
-        Err(RunFault::ShortRecording) => unreachable!(),
+        Err(fault) => Err(fault.into()),
     }
 }

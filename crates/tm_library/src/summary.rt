@@ -8,7 +8,7 @@ use crate::chunk::Chunk;
 use crate::{Answer, Refusal};
 use std::alloc::Global;
 use tm_devices::Room;
-use tm_tool::{RunFault, Settings, Summed, sum_up};
+use tm_tool::{Settings, Summed, sum_up};
 
 // What a summary answers: there is no report, no checkpoint and no definition, and all octets are used.
 fn whole_answer(summed: Summed, out: usize, octets: &[u8]) -> Answer
@@ -61,10 +61,6 @@ pub fn summarize_recording(
     let mut room = Room::new(out, &mut more);
     match sum_up(alloc, settings, &mut recording, &mut room) {
         Ok(summed) => Ok(whole_answer(summed, room.length(), octets)),
-        Err(RunFault::TooMany) => Err(Refusal::TooMany),
-        Err(RunFault::Write | RunFault::NoMemory) => Err(Refusal::NoMemory),
-        Err(RunFault::Read) => unreachable!(),
-        Err(RunFault::Report) => unreachable!(),
-        Err(RunFault::ShortRecording) => unreachable!(),
+        Err(fault) => Err(fault.into()),
     }
 }

@@ -1,5 +1,5 @@
-use Rattle.std.proofs.Common.{sym, ◌∙◌}
-use Rattle.tm_library.proofs.ChunkLemmas.{gave, holds, never_short, too_many, written_first}
+use Rattle.std.proofs.Common.{refl, sym, ◌∙◌}
+use Rattle.tm_library.proofs.ChunkLemmas.{gave, holds, refused, written_first}
 use Rattle.tm_library.proofs.running.run_into_rooms.Goals as goal
 
 pub returns-in-Ok : goal.returns-in-Ok
@@ -18,12 +18,8 @@ returns-in-Ok c =
       refused = tt;
     }
 
-pub returns-in-Err-TooMany-clause-refused : goal.returns-in-Err-TooMany-clause-refused
-returns-in-Err-TooMany-clause-refused c =
-    let stop = c.in-Err-TooMany in
-    too_many c.args.command c.args.chunk.last c.args.job _ _ c.requires stop.ensures.sound _ _ _ _ stop.field-0 stop.ensures.stopped stop.field-0-is
-
-pub unreachable-requires-in-Err-ShortRecording : goal.unreachable-requires-in-Err-ShortRecording
-unreachable-requires-in-Err-ShortRecording c =
-    let stop = c.in-Err-ShortRecording in
-    never_short c.args.command c.args.chunk.last c.args.job _ _ c.requires stop.ensures.sound _ _ _ _ stop.field-0 stop.ensures.stopped stop.field-0-is
+pub returns-clause-refused : goal.returns-clause-refused
+returns-clause-refused c =
+    let stop = c.in-Err in
+    let told = refused c.args.command c.args.chunk.last c.args.job _ _ c.requires stop.ensures.sound _ _ _ _ stop.fault stop.ensures.stopped stop.fault refl in
+    rw c.into.ensures told

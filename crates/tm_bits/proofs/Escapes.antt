@@ -1,14 +1,8 @@
 -- Octets as they are printed: how long they are.
-use Rattle.std.proofs.Common.{◌≡◌, ◌+◌, ◌<◌, ◌≤◌, ℕ, false, List, [], ◌∷◌, ◌++◌, length, get_or, take, codes, ap, ◌∙◌, if◌then◌else◌, arith, length-append}
+use Rattle.std.proofs.Common.{◌≡◌, ◌+◌, ◌<◌, ◌≤◌, ℕ, List, ◌++◌, length, get_or, take, ap, ◌∙◌, arith, length-append}
 use Rattle.std.proofs.lemmas.List.Folds.{length-flat_map-take}
 use Rattle.std.specs.List.{flat_map}
-use Rattle.hex.specs.Hex.{encode_lower, encode_with}
-use Rattle.tm_bits.specs.Escape.{is_plain, octet_text}
-
--- an octet that is no plain one is printed as four
-pub four : (octet : ℕ) → is_plain octet ≡ false → length (octet_text octet) ≡ 4
-unfolding encode_with
-four octet e = ap (λ b. length (if b then octet ∷ [] else codes "\\x" ++ encode_lower (octet ∷ []))) e
+use Rattle.tm_bits.specs.Escape.{octet_text}
 
 -- what is written after a text, and the next octet, are no longer than all octets
 pub written_within : (octets before items : List ℕ) (i d : ℕ) → i < length octets

@@ -1,6 +1,6 @@
 //! Octets as printed text.
 
-ghost use Rattle.std.specs.Prelude.{◌≡◌, ◌+◌, ◌<◌, ◌≤◌, ◌++◌, ◌∷◌, [], length, take, OnOk, OnErr, vec_len, vec_capacity};
+ghost use Rattle.std.specs.Prelude.{◌≡◌, ◌+◌, ◌<◌, ◌≤◌, ◌++◌, ◌∷◌, [], false, length, take, OnOk, OnErr, vec_len, vec_capacity};
 ghost use Rattle.hex.specs.Hex.{encode_lower};
 ghost use Rattle.tm_bits.specs.Escape.{escaped, is_plain, octet_text};
 
@@ -13,20 +13,18 @@ fn is_plain_octet(octet: u8) -> bool
     0x20 <= octet && octet <= 0x7E && octet != b'\\'
 }
 
-// Writes the two digits of an octet at the end of a text.
-fn push_digits(text: &mut Vec<u8>, octet: u8) -> Result<(), AllocError>
-    ensures appended { OnOk result (text.new.items ≡ text.old.items ++ encode_lower (octet ∷ [])) }
-    ensures room { vec_capacity text.old ≤ vec_capacity text.new }
-    ensures full { OnErr result (vec_capacity text.old < vec_len text.old + 2) }
-    ensures kept { OnErr result (text.new.items ≡ text.old.items) }
+// An octet that isn't plain, as it is printed.
+fn escape_of(octet: u8) -> [u8; 4]
+    requires { is_plain octet ≡ false }
+    ensures { result ≡ octet_text octet }
 {
-    let mut digits = [0u8; 2];
-    let _ = hex::encode_to_slice([octet], &mut digits);
-    text.extend_from_slice(&digits)
+    let mut escape = *b"\\x00";
+    let _ = hex::encode_to_slice([octet], &mut escape[2..]);
+    escape
 }
 
 // Writes an octet at the end of a text.
-#[tactic(auto, using(std::proofs::lemmas::Grind::common_steps, crate::proofs::Escapes::four))]
+#[tactic(auto, using(std::proofs::lemmas::Grind::common_steps))]
 fn push_octet(text: &mut Vec<u8>, octet: u8) -> Result<(), AllocError>
     ensures appended { OnOk result (text.new.items ≡ text.old.items ++ octet_text octet) }
     ensures room { vec_capacity text.old ≤ vec_capacity text.new }
@@ -36,8 +34,7 @@ fn push_octet(text: &mut Vec<u8>, octet: u8) -> Result<(), AllocError>
     if is_plain_octet(octet) {
         text.push(octet)?;
     } else {
-        text.extend_from_slice(b"\\x")?;
-        push_digits(text, octet)?;
+        text.extend_from_slice(&escape_of(octet))?;
     }
     Ok(())
 }

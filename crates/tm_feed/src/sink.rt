@@ -119,7 +119,7 @@ impl EventSink<'_> {
     {
         if self
             .tracker
-            .add_without_notes(packet.channel, packet.header)
+            .add_without_notes(packet.channel, &packet.header)
         {
             return Ok(());
         }

@@ -1,15 +1,17 @@
 -- Values that CSV writes as they are: numbers and raw digits.
-use Rattle.std.proofs.Common.{◌≡◌, ℕ, zero, suc, ◌-◌, ◌^◌, ◌<◌, ◌≤◌, Bool, true, false, ◌||◌, ◌/◌, ◌%◌, List, [], ◌∷◌, ◌++◌, length, refl, ap, sym, ◌∙◌, append_assoc, inl, inr, arith, slice_index}
+use Rattle.std.proofs.Common.{◌≡◌, ℕ, zero, suc, ◌-◌, ◌^◌, ◌<◌, ◌≤◌, Bool, true, false, ◌||◌, ◌==◌, ◌/◌, ◌%◌, List, [], ◌∷◌, ◌++◌, length, refl, ap, sym, ◌∙◌, append_assoc, inl, inr, arith, rules, slice_index}
 use Rattle.std.specs.List.{list_any}
 use Rattle.std.specs.Char.{digit_value}
 use Rattle.std.specs.Fmt.{decimal}
 use Rattle.std.specs.Str.Parse.{AllDigits}
-use Rattle.std.proofs.lemmas.Bool.{cases_lt, lt-ltb, le-ltb, ne_eqb}
+use Rattle.std.proofs.lemmas.Bool.{cases_Bool, cases_lt, lt-ltb, le-ltb, ne_eqb}
 use Rattle.std.proofs.lemmas.Fmt.{decimal_is_IsNumeral, length-decimal-le}
 use Rattle.std.proofs.lemmas.List.{append-nil}
+use Rattle.std.proofs.lemmas.List.Folds.{list_any-append}
 use Rattle.std.proofs.Math.Nat.{pow-le-pow_right, pow-succ'}
-use Rattle.csv.specs.Writing.{default_writer, fields_text, needs_byte, row_body}
+use Rattle.csv.specs.Writing.{default_writer, fields_text, needs_byte, needs_quotes, row_body}
 use Rattle.hex.specs.Hex.{encode_lower, encode_with, lower_digits}
+use Rattle.tm_bits.specs.Escape.{escaped, is_plain, octet_text}
 use Rattle.tm_fields.specs.Rows.{raw, signed}
 use Rattle.tm_fields.proofs.LineLemmas.{fields_of_both}
 
@@ -89,6 +91,33 @@ hex_plain : (octets : List ℕ) → list_any is_set_apart (encode_with lower_dig
 unfolding encode_with
 hex_plain [] = refl
 hex_plain (octet ∷ octets) = rw (digit_of lower_digits (octet / 16) refl, digit_of lower_digits (octet % 16) refl, hex_plain octets) refl
+
+-- an octet that is no comma and no quotation mark isn't set apart where it is printed
+octet_plain : (octet : ℕ) → (octet == 44) ≡ false → (octet == 34) ≡ false → list_any is_set_apart (octet_text octet) ≡ false
+octet_plain octet comma quote = elim (cases_Bool (is_plain octet)) [
+  | inl plain ↦
+      let low : 32 ≤ octet = search (rules, plain) in
+      let return = ne_eqb octet 13 (λ e. omega (arith, e, low)) in
+      let feed = ne_eqb octet 10 (λ e. omega (arith, e, low)) in
+      rw (plain, comma, quote, return, feed) refl
+  | inr other ↦ rw other (hex_plain (octet ∷ []))
+]
+
+printed_plain : (octets : List ℕ) → list_any (λ o. o == 44) octets ≡ false → list_any (λ o. o == 34) octets ≡ false
+    → list_any is_set_apart (escaped octets) ≡ false
+printed_plain [] commas quotes = refl
+printed_plain (o ∷ octets) commas quotes =
+    let comma = or_parts (o == 44) (list_any (λ o. o == 44) octets) commas in
+    let quote = or_parts (o == 34) (list_any (λ o. o == 34) octets) quotes in
+    rw (list_any-append is_set_apart (octet_text o) (escaped octets), octet_plain o comma.0 quote.0, printed_plain octets comma.1 quote.1) refl
+
+pub escaped_plain : (octets : List ℕ) → list_any (λ o. o == 44) octets ≡ false → list_any (λ o. o == 34) octets ≡ false
+    → needs_quotes default_writer (escaped octets) ≡ false
+escaped_plain octets commas quotes = printed_plain octets commas quotes
+
+pub text_made : (row octets : List ℕ) → needs_quotes default_writer (escaped octets) ≡ false
+    → (row ++ 44 ∷ []) ++ escaped octets ≡ row ++ fields_text default_writer (escaped octets ∷ [])
+text_made row octets plain = append_assoc row (44 ∷ []) (escaped octets) ∙ ap (λ value. row ++ value) (sym (column (escaped octets) plain))
 
 pub raw_made : (row octets : List ℕ) → (row ++ (44 ∷ 48 ∷ 120 ∷ [])) ++ encode_lower octets ≡ row ++ fields_text default_writer (raw octets ∷ [])
 raw_made row octets = append_assoc row (44 ∷ 48 ∷ 120 ∷ []) (encode_lower octets) ∙ ap (λ value. row ++ value) (sym (column (raw octets) (hex_plain octets)))

@@ -1,7 +1,7 @@
 //! Values as CSV's default settings write them in a row.
 
-ghost use Rattle.std.specs.Prelude.{◌≡◌, ◌++◌, ◌∷◌, [], ℕ, Some, List, OnOk};
-ghost use Rattle.csv.specs.Writing.{default_writer, fields_text};
+ghost use Rattle.std.specs.Prelude.{◌≡◌, ◌++◌, ◌∷◌, [], ℕ, Some, List, OnOk, true, false};
+ghost use Rattle.csv.specs.Writing.{default_writer, fields_text, needs_quotes};
 ghost use Rattle.tm_bits.specs.Escape.{escaped};
 ghost use Rattle.tm_fields.specs.code.Line.{HasPassedOn};
 
@@ -23,6 +23,24 @@ fn write_line(writer: &mut Writer<Vec<u8>>, value: &[u8]) -> Result<(), AllocErr
     write_value(writer, value)?;
     end(writer)?;
     pass(writer)
+}
+
+// The printed text of octets needs no quotes: it has no comma and no quotation mark, and no text printed so has a line's end.
+#[tactic(auto, using(crate::proofs::PlainLemmas::escaped_plain))]
+fn is_plain(octets: &[u8]) -> bool
+    ensures { result ≡ true → needs_quotes default_writer (escaped octets.now) ≡ false }
+{
+    !octets.contains(&b',') && !octets.contains(&b'"')
+}
+
+// Writes a comma and the printed text of octets at the end of a row. The text needs no quotes, so CSV writes it as it is.
+#[tactic(auto, using(crate::proofs::PlainLemmas::text_made))]
+fn push_plain(row: &mut Vec<u8>, octets: &[u8]) -> Result<(), AllocError>
+    requires { needs_quotes default_writer (escaped octets.now) ≡ false }
+    ensures { OnOk result (row.new.items ≡ row.old.items ++ fields_text default_writer (escaped octets.now ∷ [])) }
+{
+    row.push(b',')?;
+    push_escaped(row, octets)
 }
 
 /// Puts texts into rows as CSV writes them. What they are made in is kept from text to text.
@@ -80,6 +98,9 @@ impl Cells {
     pub(crate) fn push_text(&mut self, row: &mut Vec<u8>, octets: &[u8]) -> Result<(), AllocError>
         ensures { OnOk result (row.new.items ≡ row.old.items ++ fields_text default_writer (escaped octets.now ∷ [])) }
     {
+        if is_plain(octets) {
+            return push_plain(row, octets);
+        }
         self.text.clear();
         push_escaped(&mut self.text, octets)?;
         self.push(row)

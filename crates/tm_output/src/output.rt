@@ -221,7 +221,7 @@ fn note_if_quiet<O: Outlet>(tracker: &mut Tracker, outlet: &O, packet: &Packet<'
     if !outlet.adds_nothing_to_report(packet) {
         return false;
     }
-    tracker.add_without_notes(packet.channel, packet.header)
+    tracker.add_without_notes(packet.channel, &packet.header)
 }
 
 // Takes note of the first packets of a span that the outlet joins and that add nothing to the report, and counts them. Answers how many

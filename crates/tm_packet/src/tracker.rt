@@ -110,25 +110,25 @@ impl Tracker {
 
     /// Takes the next header of a channel if it has no notes, and answers whether it has none. A header that has notes is left to `take`.
     #[tactic(auto, using(crate::proofs::Merging::one_header))]
-    pub fn add_without_notes(&mut self, channel: u8, header: Header) -> bool
+    pub fn add_without_notes(&mut self, channel: u8, header: &Header) -> bool
         requires { channel < 8 }
-        ensures none { Decides result (sequence.notes self.old (record { channel = channel; header = header } ∷ []) ≡ [] ∷ []) }
+        ensures none { Decides result (sequence.notes self.old (record { channel = channel; header = header.now } ∷ []) ≡ [] ∷ []) }
         ensures recorded { result ≡ true → self.new
-            ≡ sequence.entries_after self.old (record { channel = channel; header = header } ∷ []) }
+            ≡ sequence.entries_after self.old (record { channel = channel; header = header.now } ∷ []) }
         ensures left { result ≡ false → self.new ≡ self.old }
     {
         if header.is_idle() {
             return true;
         }
-        let key = key_of(channel, &header);
+        let key = key_of(channel, header);
         let entry = self.table.entry(key);
         if entry.is_none() {
-            return self.begin_without_notes(channel, header);
+            return self.begin_without_notes(channel, *header);
         }
-        if !gives_none(entry, &header) {
+        if !gives_none(entry, header) {
             return false;
         }
-        self.table.change(key, kept_after(entry, &header));
+        self.table.change(key, kept_after(entry, header));
         true
     }
 

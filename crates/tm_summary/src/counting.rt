@@ -60,7 +60,7 @@ impl Counting<'_> {
         let application = header.application();
         let length = octets.len() as u64;
         self.counts.add_packet(seen, channel, application, length);
-        if self.tracker.add_without_notes(channel, header) {
+        if self.tracker.add_without_notes(channel, &header) {
             return;
         }
         let notes = self.tracker.take(channel, header);

@@ -2,7 +2,7 @@
 use Rattle.std.proofs.Common.{◌≡◌, ℕ, ◌+◌, ◌-◌, ◌<◌, ◌≤◌, ◌^◌, zero, suc, List, [], ◌∷◌, ◌++◌, length, take, drop, get_or, set, refl, sym, ap, ◌∙◌, arith, length-drop}
 use Rattle.std.specs.Fmt.{decimal}
 use Rattle.std.proofs.lemmas.Fmt.{decimal_digit, length-decimal-le}
-use Rattle.std.proofs.lemmas.List.{drop-drop, drop-set, drop-set-add, drop_all}
+use Rattle.std.proofs.lemmas.List.{drop-append-le, drop-drop, drop-set, drop-set-add, drop-take, drop_all, take_at}
 use Rattle.tm_frame.specs.declared.fault.FrameFault.{FrameFault}
 use Rattle.tm_frame.specs.declared.fault.FrameFault.TheVariants.{Crc, Version, Spacecraft, SecondaryFlag, OcfFlag, SecondaryVersion, Layout, Pointer}
 use Rattle.tm_frame.specs.FaultWords.{fault_word}
@@ -73,3 +73,26 @@ prepend_more buffer old text begin i is h k =
     ∙ prepend_step text (drop begin old) i h long
     ∙ ap (λ (l : List ℕ). take (suc i) text ++ l) (drop-drop (suc i) begin old)
     ∙ ap (λ (n : ℕ). take n text ++ drop (begin + n) old) (sym next)
+
+-- what is left of a kept text after the octets to skip, in front of what was there
+pub kept_before : (buffer kept old text : List ℕ) (begin skipped : ℕ) → drop begin buffer ≡ kept ++ old → drop skipped kept ≡ text → skipped ≤ length kept
+    → drop (begin + skipped) buffer ≡ text ++ old
+kept_before buffer kept old text begin skipped is rest h =
+    sym (drop-drop skipped begin buffer)
+    ∙ ap (λ (l : List ℕ). drop skipped l) is
+    ∙ drop-append-le skipped kept old h
+    ∙ ap (λ (l : List ℕ). l ++ old) rest
+
+-- a text in front of what was there, as it stands at the end of the 64 octets before what was there
+pub text_kept : (buffer old text : List ℕ) (begin end : ℕ) → drop begin buffer ≡ text ++ old → begin + length text ≡ end → 64 ≤ end → length text ≤ 64
+    → drop (64 - (end - begin)) (take (end - (end - 64)) (drop (end - 64) buffer)) ≡ text
+text_kept buffer old text begin end is e room short =
+    let n : ℕ = length text in
+    let skipped : 64 - (end - begin) ≡ 64 - n = omega arith in
+    let whole : end - (end - 64) ≡ 64 - n + n = omega arith in
+    let place : end - 64 + (64 - n) ≡ begin = omega arith in
+    ap (λ (k : ℕ). drop k (take (end - (end - 64)) (drop (end - 64) buffer))) skipped
+    ∙ ap (λ (k : ℕ). drop (64 - n) (take k (drop (end - 64) buffer))) whole
+    ∙ drop-take (64 - n) n (drop (end - 64) buffer)
+    ∙ ap (λ (l : List ℕ). take n l) (drop-drop (64 - n) (end - 64) buffer ∙ ap (λ (k : ℕ). drop k buffer) place ∙ is)
+    ∙ take_at text old n refl

@@ -2,7 +2,7 @@
 
 ghost use Rattle.std.specs.Prelude.{◌≡◌, ◌+◌, ◌≤◌, ◌++◌, codes, drop, length};
 ghost use Rattle.std.specs.Fmt.{decimal};
-ghost use Rattle.tm_lines.specs.Lines.{bad_line, bit_text, drop_line, flags_word, frame_line, gap_line, kind_word, master_gap_line, note_line, packet_line, place_text, short_line, short_packet_line, type_word, vca_line, why_word, yes_or_no};
+ghost use Rattle.tm_lines.specs.Lines.{bad_line, bit_text, drop_line, flags_word, frame_line, gap_line, kind_word, master_gap_line, note_line, packet_end, packet_line, place_text, short_line, short_packet_line, type_word, vca_line, why_word, yes_or_no};
 
 use crate::{DroppedPart, LineBuffer, Packet, PacketPlace};
 use tm_frame::{Frame, FrameFault, Kind};
@@ -132,13 +132,14 @@ fn format_flags(line: &mut LineBuffer, flags: Flags)
     }
 }
 
-/// The line of a packet of this length that was found at a place.
+// The line of a packet, from the place on.
 #[inline(always)]
-pub fn format_packet_at(line: &mut LineBuffer, place: PacketPlace, header: &Header, length: usize)
-    ensures { line.new ≡ packet_line place.seen place.channel place.first place.place header.now length }
+fn format_packet_end(line: &mut LineBuffer, place: u16, header: &Header, octet_count: usize)
+    ensures most { length line.new ≤ 113 }
+    ensures text { line.new ≡ packet_end place header.now octet_count }
 {
     line.start();
-    line.prepend_long_number(length as u64);
+    line.prepend_long_number(octet_count as u64);
     line.prepend_text(b" octets=");
     line.prepend_number(u32::from(header.count()));
     line.prepend_text(b" count=");
@@ -150,30 +151,37 @@ pub fn format_packet_at(line: &mut LineBuffer, place: PacketPlace, header: &Head
     line.prepend_text(b" secondary=");
     line.prepend_text(type_word(header.telecommand()));
     line.prepend_text(b" type=");
-    line.prepend_number(u32::from(place.place));
-    line.prepend_text(b" at=");
-    line.prepend_number(place.first);
-    line.prepend_text(b" from=");
-    line.prepend_number(u32::from(place.channel));
-    line.prepend_text(b" channel=");
-    line.prepend_number(place.seen);
-    line.prepend_text(b"packet record=");
+    line.prepend_number(u32::from(place));
 }
+
+/// The line of a packet of this length that was found at a place.
+#[inline(always)]
+#[tactic(auto, using(crate::proofs::LineLemmas::line_of_parts))]
+pub fn format_packet_at(line: &mut LineBuffer, place: PacketPlace, header: &Header, length: usize)
+    ensures { line.new ≡ packet_line place.seen place.channel place.first place.place header.now length }
+{
+    format_packet_end(line, place.place, header, length);
+    line.prepend_beginning(place.seen, place.channel, place.first);
+}
+
+// A packet of fewer octets is short. Where packets are short, most records have several, whose lines have the same beginning.
+const SHORT: usize = 128;
 
 /// The line of a packet.
 #[inline(always)]
+#[tactic(auto, using(crate::proofs::LineLemmas::line_of_parts))]
 pub fn format_packet(line: &mut LineBuffer, packet: &Packet<'_>)
     ensures { line.new
         ≡ packet_line packet.now.seen packet.now.channel packet.now.first packet.now.place packet.now.header
         (length packet.now.octets.now) }
 {
-    let place = PacketPlace {
-        seen: packet.seen,
-        channel: packet.channel,
-        first: packet.first,
-        place: packet.place,
-    };
-    format_packet_at(line, place, &packet.header, packet.octets.len());
+    let octets = packet.octets.len();
+    format_packet_end(line, packet.place, &packet.header, octets);
+    if octets < SHORT && packet.first == packet.seen {
+        line.repeat_beginning(packet.seen, packet.channel);
+    } else {
+        line.prepend_beginning(packet.seen, packet.channel, packet.first);
+    }
 }
 
 // ---- the report

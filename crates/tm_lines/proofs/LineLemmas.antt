@@ -2,7 +2,8 @@
 use Rattle.std.proofs.Common.{◌≡◌, ℕ, List, ◌++◌, codes, append_assoc}
 use Rattle.std.specs.Fmt.{decimal}
 use Rattle.tm_packet.specs.Header.{Fields}
-use Rattle.tm_lines.specs.Lines.{packet_beginning, packet_end, packet_line}
+use Rattle.tm_lines.specs.Lines.{packet_line}
+use Rattle.tm_lines.specs.code.Parts.{packet_beginning, packet_end}
 
 pub beginning_before : (seen channel first : ℕ) (rest : List ℕ) → packet_beginning seen channel first ++ rest
     ≡ codes "packet record=" ++ (decimal seen ++ (codes " channel=" ++ (decimal channel ++ (codes " from=" ++ (decimal first ++ (codes " at=" ++ rest))))))

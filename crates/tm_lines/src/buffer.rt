@@ -28,7 +28,7 @@ pub struct LineBuffer {
 
 impl Model for LineBuffer {
     ghost use Rattle.std.specs.Prelude.{◌≡◌, ◌≤◌, ℕ, List, drop, IfSome};
-    ghost use Rattle.tm_lines.specs.Lines.{packet_beginning};
+    ghost use Rattle.tm_lines.specs.code.Parts.{packet_beginning};
 
     ghost Value = { List ℕ };
 
@@ -41,7 +41,7 @@ impl Model for LineBuffer {
 impl LineBuffer {
     ghost use Rattle.std.specs.Prelude.{[], ◌≡◌, ◌+◌, ◌<◌, ◌≤◌, ◌++◌, length, codes};
     ghost use Rattle.std.specs.Fmt.{decimal};
-    ghost use Rattle.tm_lines.specs.Lines.{packet_beginning};
+    ghost use Rattle.tm_lines.specs.code.Parts.{packet_beginning};
 
     /// A line of no octets.
     #[tactic(auto, using(crate::proofs::BufferLemmas::nothing_behind))]

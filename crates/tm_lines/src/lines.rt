@@ -2,7 +2,8 @@
 
 ghost use Rattle.std.specs.Prelude.{◌≡◌, ◌+◌, ◌≤◌, ◌++◌, codes, drop, length};
 ghost use Rattle.std.specs.Fmt.{decimal};
-ghost use Rattle.tm_lines.specs.Lines.{bad_line, bit_text, drop_line, flags_word, frame_line, gap_line, kind_word, master_gap_line, note_line, packet_end, packet_line, place_text, short_line, short_packet_line, type_word, vca_line, why_word, yes_or_no};
+ghost use Rattle.tm_lines.specs.Lines.{bad_line, bit_text, drop_line, flags_word, frame_line, gap_line, kind_word, master_gap_line, note_line, packet_line, place_text, short_line, short_packet_line, type_word, vca_line, why_word, yes_or_no};
+ghost use Rattle.tm_lines.specs.code.Parts.{packet_end};
 
 use crate::{DroppedPart, LineBuffer, Packet, PacketPlace};
 use tm_frame::{Frame, FrameFault, Kind};

@@ -1,4 +1,4 @@
-use Rattle.tm_lines.specs.Lines.{packet_end}
+use Rattle.tm_lines.specs.code.Parts.{packet_end}
 use Rattle.tm_lines.proofs.lines.format_packet_end.Goals as goal
 
 pub returns-clause-text : goal.returns-clause-text

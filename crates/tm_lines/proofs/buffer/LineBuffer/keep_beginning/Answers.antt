@@ -1,5 +1,5 @@
 use Rattle.std.proofs.Common.{◌≡◌, ◌+◌, ◌-◌, ◌∙◌, ◌++◌, ◌≤◌, List, ℕ, ap, arith, drop, length, length-append, sym}
-use Rattle.tm_lines.specs.Lines.{packet_beginning}
+use Rattle.tm_lines.specs.code.Parts.{packet_beginning}
 use Rattle.tm_lines.proofs.BufferLemmas.{behind_begin, text_kept}
 use Rattle.tm_lines.proofs.buffer.LineBuffer.keep_beginning.Goals as goal
 

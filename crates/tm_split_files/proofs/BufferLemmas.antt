@@ -14,6 +14,11 @@ pub in_any_case : {X Y : Type 0} {P : X → Type 0} {Q : Y → Type 0} (done : R
 in_any_case (Ok value) p q = p value
 in_any_case (Err fault) p q = q fault
 
+-- what holds where nothing failed
+pub where_done : {X Y P : Type 0} (done : Result X Y) → ((fault : Y) → done ≢ Err fault) → OnOk done P → P
+where_done (Ok value) unrefused p = p
+where_done (Err fault) unrefused p = absurd (unrefused fault refl)
+
 module _ {X : Type 0} where
   -- what a list has where it was set, and elsewhere
   pub set_here : (xs : List X) (i : ℕ) (x : X) → i < length xs → slice_get (set xs i x) i ≡ Some x
@@ -56,6 +61,11 @@ module _ {Z : Type 0} where
     left_if_refused (Err fault) (inr empty) =
         each_there (λ k o. (option_map (λ octets. octets.items) o ≡ octets_held_for old k) ⊎ (option_map (λ octets. octets.items) o ≡ Some []))
         (inr (ap Some empty)) (λ other. inl refl)
+
+    -- this one was written, or couldn't be
+    pub left_there : IsKeptOrEmpty before.items after.items → IsLeftAt old (set old n after) n
+    left_there (inl same) = inl (rw (set_here old n after below, before_there) (ap Some same))
+    left_there (inr empty) = inr (rw (set_here old n after below) (ap Some empty))
 
 -- a file whose beginning was noted
 pub made_there : (begun : List Bool) (n : ℕ) (was_begun : Bool) (old new : ℕ) → n < length begun → was_begun ≡ get_or begun n was_begun

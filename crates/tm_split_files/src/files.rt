@@ -6,9 +6,11 @@ ghost use Rattle.tm_split_files.specs.code.Buffers.{AreEmpty, AreKept, AreKeptOr
 ghost use Rattle.tm_split_files.specs.ShelfFaults.{is_out_of_memory};
 ghost use Rattle.tm_split_files.specs.Names.{file_in};
 ghost use Rattle.tm_split_files.specs.code.Files.{IsClear};
+ghost use Rattle.tm_split_files.specs.code.OpenFiles.{IsAppended};
 
+use crate::open_files::{MOST_OPEN, OpenFile, keep_open, place_of};
 use std::alloc::{AllocError, Global};
-use std::fs::{File, OpenOptions};
+use std::fs::OpenOptions;
 use std::io::{self, Write};
 use std::rt::Files;
 use tm_file_identity::{FileIdentities, FileIdentity, identity_of, identity_of_file, is_any};
@@ -53,7 +55,18 @@ fn remember(made: &mut Vec<FileIdentity>, identity: FileIdentity) -> Result<(), 
     }
 }
 
-// Writes what is held to a file, and then these octets. None is held any more.
+// Holds these octets too if that takes no memory, and leaves none of them. Otherwise it leaves them all.
+fn hold_in_room<'a>(held: &mut Vec<u8>, octets: &'a [u8]) -> &'a [u8]
+    ensures { held.new.items ++ result.now ≡ held.old.items ++ octets.now }
+{
+    let room = held.capacity().saturating_sub(held.len());
+    if octets.len() <= room && held.extend_from_slice(octets).is_ok() {
+        return &[];
+    }
+    octets
+}
+
+// Writes what is held to a file, and then these octets, by one call where there is room. None is held any more.
 fn write_behind_held<W: Write>(
     file: &mut W,
     held: &mut Vec<u8>,
@@ -63,8 +76,9 @@ fn write_behind_held<W: Write>(
     ensures none { held.new.items ≡ [] }
     ensures refused { IfErr result (λ fault. fault ≡ ShelfFault.NotWritten) }
 {
+    let left = hold_in_room(held, octets);
     let written = match file.write_all(held.as_slice()) {
-        Ok(()) => file.write_all(octets),
+        Ok(()) => file.write_all(left),
         Err(error) => Err(error),
     };
     held.clear();
@@ -112,34 +126,55 @@ impl<R: Files + AllocGlobal> Folder<'_, R> {
         Ok(identity)
     }
 
+    // Opens the file of this name in one way. If it can't while others are open, it closes them and tries once more.
+    fn open_by(
+        &self,
+        options: &OpenOptions,
+        name: &str,
+        opened: &mut Vec<OpenFile<R::File>>,
+    ) -> io::Result<R::File> {
+        match options.open(self.rt, name) {
+            Err(_) if !opened.is_empty() => {
+                opened.clear();
+                options.open(self.rt, name)
+            }
+            tried => tried,
+        }
+    }
+
     // Opens the file of this name, which is empty from then on unless the run goes on. It has to be clear.
     fn make(
         &self,
         name: &str,
         made: &[FileIdentity],
         identity: &FileIdentity,
+        opened: &mut Vec<OpenFile<R::File>>,
     ) -> io::Result<R::File>
         requires { IsClear self.now.identities.now made.now identity.now }
     {
+        let mut options = OpenOptions::new();
         if self.goes_on {
-            OpenOptions::new()
-                .append(true)
-                .create(true)
-                .open(self.rt, name)
+            options.append(true).create(true);
         } else {
-            File::create(self.rt, name)
+            options.write(true).create(true).truncate(true);
         }
+        self.open_by(&options, name, opened)
     }
 
     // Makes the file of an application, and remembers its identity. It stands apart, since most files were begun.
     #[inline(never)]
-    fn begin(&self, application: usize, made: &mut Vec<FileIdentity>) -> Result<(), ShelfFault>
+    fn begin(
+        &self,
+        application: usize,
+        made: &mut Vec<FileIdentity>,
+        opened: &mut Vec<OpenFile<R::File>>,
+    ) -> Result<(), ShelfFault>
         ensures made { OnOk result (vec_len made.new ≡ vec_len made.old + 1) }
         ensures unmade { OnErr result (made.new.items ≡ made.old.items) }
     {
         let name = self.name_of(application)?;
         let identity = self.clear(name.as_str(), made.as_slice())?;
-        let Ok(file) = self.make(name.as_str(), made.as_slice(), &identity) else {
+        let Ok(file) = self.make(name.as_str(), made.as_slice(), &identity, opened) else {
             return Err(ShelfFault::NotWritten);
         };
         remember(made, identity_of_file(self.alloc, &file))
@@ -152,6 +187,7 @@ impl<R: Files + AllocGlobal> Folder<'_, R> {
         application: usize,
         begun: &mut bool,
         made: &mut Vec<FileIdentity>,
+        opened: &mut Vec<OpenFile<R::File>>,
     ) -> Result<(), ShelfFault>
         ensures begun { OnOk result (begun.new ≡ true) }
         ensures made { OnOk result (begun.old ≡ false → vec_len made.new ≡ vec_len made.old + 1) }
@@ -159,16 +195,20 @@ impl<R: Files + AllocGlobal> Folder<'_, R> {
         ensures unmade { OnErr result ((begun.new ≡ begun.old) × (made.new.items ≡ made.old.items)) }
     {
         if !*begun {
-            self.begin(application, made)?;
+            self.begin(application, made, opened)?;
             *begun = true;
         }
         Ok(())
     }
 
     // Opens the file of an application, to append to it.
-    fn open(&self, application: usize) -> Result<R::File, ShelfFault> {
+    fn open(
+        &self,
+        application: usize,
+        opened: &mut Vec<OpenFile<R::File>>,
+    ) -> Result<R::File, ShelfFault> {
         let name = self.name_of(application)?;
-        match OpenOptions::new().append(true).open(self.rt, name.as_str()) {
+        match self.open_by(OpenOptions::new().append(true), name.as_str(), opened) {
             Ok(file) => Ok(file),
             Err(_) => Err(ShelfFault::NotWritten),
         }
@@ -182,35 +222,54 @@ impl<R: Files + AllocGlobal> Folder<'_, R> {
         application: usize,
         held: &mut Vec<u8>,
         octets: &[u8],
+        opened: &mut Vec<OpenFile<R::File>>,
     ) -> Result<(), ShelfFault>
         ensures written { OnOk result (held.new.items ≡ []) }
+        ensures appended { OnOk result (IsAppended R.File.contents opened.old.items opened.new.items application
+            (held.old.items ++ octets.now)) }
         ensures kept { IfErr result (λ fault. is_out_of_memory fault ≡ true → held.new.items ≡ held.old.items) }
         ensures left { IsKeptOrEmpty held.old.items held.new.items }
     {
-        let mut file = self.open(application)?;
-        write_behind_held(&mut file, held, octets)
+        if let Some(place) = place_of(application, opened.as_slice()) {
+            return write_behind_held(&mut opened[place].file, held, octets);
+        }
+        let mut file = self.open(application, opened)?;
+        let written = write_behind_held(&mut file, held, octets);
+        keep_open(opened, application, file);
+        written
     }
 
     // Writes what is held of an application, if anything is.
-    fn write_if_held(&self, application: usize, held: &mut Vec<u8>) -> Result<(), ShelfFault>
+    fn write_if_held(
+        &self,
+        application: usize,
+        held: &mut Vec<u8>,
+        opened: &mut Vec<OpenFile<R::File>>,
+    ) -> Result<(), ShelfFault>
         ensures written { OnOk result (held.new.items ≡ []) }
         ensures left { IsKeptOrEmpty held.old.items held.new.items }
     {
         if held.is_empty() {
             return Ok(());
         }
-        self.write_one(application, held, &[])
+        self.write_one(application, held, &[], opened)
     }
 
     // Holds octets of an application after those that are held of it, or writes all of these where they are many.
     #[inline(always)]
-    fn add(&self, application: usize, held: &mut Vec<u8>, octets: &[u8]) -> Result<(), ShelfFault>
+    fn add(
+        &self,
+        application: usize,
+        held: &mut Vec<u8>,
+        octets: &[u8],
+        opened: &mut Vec<OpenFile<R::File>>,
+    ) -> Result<(), ShelfFault>
         ensures held { OnOk result ((held.new.items ≡ held.old.items ++ octets.now) ⊎ (held.new.items ≡ [])) }
         ensures kept { IfErr result (λ fault. is_out_of_memory fault ≡ true → held.new.items ≡ held.old.items) }
         ensures left { OnErr result (IsKeptOrEmpty held.old.items held.new.items) }
     {
         if held.len().saturating_add(octets.len()) >= MANY_OF_ONE {
-            return self.write_one(application, held, octets);
+            return self.write_one(application, held, octets, opened);
         }
         match held.extend_from_slice(octets) {
             Ok(()) => Ok(()),
@@ -220,14 +279,18 @@ impl<R: Files + AllocGlobal> Folder<'_, R> {
 
     // Writes what is held of all applications. Where a file can't be written the others still are.
     #[tactic(auto, using(crate::proofs::BufferLemmas::none_so_far, crate::proofs::BufferLemmas::left_so_far))]
-    fn write_all_held(&self, held: &mut [Vec<u8>]) -> Result<(), ShelfFault>
+    fn write_all_held(
+        &self,
+        held: &mut [Vec<u8>],
+        opened: &mut Vec<OpenFile<R::File>>,
+    ) -> Result<(), ShelfFault>
         requires { length held.now ≡ 2048 }
         ensures written { OnOk result (AreEmpty held.new) }
         ensures left { AreKeptOrEmpty held.old held.new }
     {
         let mut done = Ok(());
         for application in 0..APPLICATIONS {
-            if let Err(fault) = self.write_if_held(application, &mut held[application]) {
+            if let Err(fault) = self.write_if_held(application, &mut held[application], opened) {
                 done = Err(fault);
             }
         }
@@ -248,15 +311,17 @@ fn empty_buffers(alloc: Global) -> Result<Vec<Vec<u8>>, AllocError>
     Ok(held)
 }
 
-/// The files of a folder, with what is not written yet. Octets are held in memory and written from time to time, with one file open at a time.
+/// The files of a folder, with what is not written yet. Octets are held in memory and written from time to time.
 #[derive(Drop)]
-pub struct HeldFiles<'a, R> {
+pub struct HeldFiles<'a, R: Files> {
     folder: Folder<'a, R>,
     // For each application what is not written yet, and whether its file was begun.
     held: Vec<Vec<u8>>,
     begun: Vec<bool>,
     // The identities of the files that were made.
     made: Vec<FileIdentity>,
+    // The files that stay open.
+    opened: Vec<OpenFile<R::File>>,
     octets: usize,
     // Why a file was not written out, until a call has told it.
     unwritten: Option<ShelfFault>,
@@ -280,6 +345,7 @@ impl<'a, R: Files + AllocGlobal> HeldFiles<'a, R> {
             held,
             begun,
             made: Vec::new(alloc),
+            opened: Vec::with_capacity(alloc, MOST_OPEN)?,
             octets: 0,
             unwritten: None,
         })
@@ -306,7 +372,8 @@ impl<'a, R: Files + AllocGlobal> HeldFiles<'a, R> {
     {
         self.octets = 0;
         let unwritten = self.unwritten.take();
-        let written = self.folder.write_all_held(self.held.as_mut_slice());
+        let held = self.held.as_mut_slice();
+        let written = self.folder.write_all_held(held, &mut self.opened);
         match unwritten {
             Some(fault) => Err(fault),
             None => written,
@@ -339,9 +406,11 @@ impl<'a, R: Files + AllocGlobal> HeldFiles<'a, R> {
             × (self.new.unwritten ≡ self.old.unwritten) }
     {
         let begun = &mut self.begun[application];
-        self.folder.begin_once(application, begun, &mut self.made)?;
+        let opened = &mut self.opened;
+        self.folder
+            .begin_once(application, begun, &mut self.made, opened)?;
         let held = &mut self.held[application];
-        self.folder.add(application, held, octets)
+        self.folder.add(application, held, octets, &mut self.opened)
     }
 
     /// Holds octets of an application, or writes them. Its file is made at the first. All that is held is written where much

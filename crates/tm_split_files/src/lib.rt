@@ -2,6 +2,7 @@
 #![tactic(auto)]
 
 mod files;
+mod open_files;
 mod refusals;
 mod shelf;
 

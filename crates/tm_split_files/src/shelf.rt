@@ -14,14 +14,14 @@ use tm_devices::Shelf;
 use tm_file_identity::FileIdentities;
 
 /// The files `apid-NNNN.pkt` of a folder. A file is made at its application's first packet, or appended to where the run resumes
-/// a job. Octets are held in memory and written from time to time, with one file open at a time.
+/// a job. Octets are held in memory and written from time to time, and files stay open between writes.
 #[derive(Drop)]
-pub struct FileShelf<'a, R> {
+pub struct FileShelf<'a, R: Files> {
     files: HeldFiles<'a, R>,
     refusals: Refusals,
 }
 
-impl<'a, R> Model for FileShelf<'a, R> {
+impl<'a, R: Files> Model for FileShelf<'a, R> {
     ghost use Rattle.std.specs.Prelude.{vec_len};
     ghost use Rattle.tm_split_files.specs.Shelves.{ShelfState, buffer_octets};
 

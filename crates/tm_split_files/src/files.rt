@@ -55,7 +55,7 @@ fn remember(made: &mut Vec<FileIdentity>, identity: FileIdentity) -> Result<(), 
     }
 }
 
-// Holds these octets too if that takes no memory, and leaves none of them. Otherwise it leaves them all.
+// Holds these octets too where that takes no memory, and gives those that are not held: none or all.
 fn hold_in_room<'a>(held: &mut Vec<u8>, octets: &'a [u8]) -> &'a [u8]
     ensures { held.new.items ++ result.now ≡ held.old.items ++ octets.now }
 {
@@ -126,7 +126,8 @@ impl<R: Files + AllocGlobal> Folder<'_, R> {
         Ok(identity)
     }
 
-    // Opens the file of this name in one way. If it can't while others are open, it closes them and tries once more.
+    // Opens the file of this name by these options. If it can't be opened while others are, those are closed and it is
+    // tried once more.
     fn open_by(
         &self,
         options: &OpenOptions,

@@ -1,9 +1,9 @@
 //! Files that stay open between writes.
 
-ghost use Rattle.std.specs.Prelude.{◌≡◌, ◌<◌, ◌⊎◌, ◌++◌, ◌∷◌, [], vec_len};
+ghost use Rattle.std.specs.Prelude.{◌≡◌, ◌<◌, ◌≤◌, ◌+◌, ◌⊎◌, ◌++◌, ◌∷◌, [], min, vec_capacity, vec_len};
 ghost use Rattle.tm_split_files.specs.code.OpenFiles.{place_among};
 
-/// So many files stay open. By default a process may have 1,024.
+/// So many files stay open: a quarter of the 1,024 that a process may have by default.
 pub const MOST_OPEN: usize = 256;
 
 /// A file that is open to be appended to.
@@ -27,7 +27,8 @@ pub fn place_of<F>(application: usize, opened: &[OpenFile<F>]) -> Option<usize>
 pub fn keep_open<F: Drop>(opened: &mut Vec<OpenFile<F>>, application: usize, file: F)
     ensures kept { (opened.new.items ≡ opened.old.items ++ (record { application = application; file = file } ∷ []))
         ⊎ (opened.new.items ≡ opened.old.items) }
-    ensures few { vec_len opened.old < 256 → vec_len opened.new < 257 }
+    ensures few { vec_len opened.old ≤ 256 → vec_len opened.new ≤ 256 }
+    ensures room { vec_len opened.old < min 256 (vec_capacity opened.old) → vec_len opened.new ≡ vec_len opened.old + 1 }
 {
     if opened.len() < MOST_OPEN {
         let _ = opened.push(OpenFile { application, file });

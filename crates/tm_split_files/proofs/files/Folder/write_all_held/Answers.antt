@@ -1,4 +1,4 @@
-use Rattle.std.proofs.Common.{◌≡◌, ◌<◌, Some, ap, arith, get_or, length, set}
+use Rattle.std.proofs.Common.{◌≡◌, ◌<◌, ℕ, List, Some, ap, arith, get_or, length, set}
 use Rattle.tm_split_files.proofs.BufferLemmas.{left_so_far, left_there, none_so_far, set_elsewhere, set_here, where_done}
 use Rattle.tm_split_files.proofs.files.Folder.write_all_held.Goals as goal
 use Rattle.tm_split_files.proofs.files.Folder.write_all_held.Goals.{in-Err, in_default}
@@ -15,7 +15,7 @@ loop-application-preserved g c =
       elim c.match-write_if_held.branch [
         | in-Err w ↦ rw w.done-is tt
         | in_default w ↦ rw w.done-is (none_so_far c.loop-application.done old (set old n after) n c.loop-application.invariant.0 others
-            (rw (set_here old n after below) (ap Some (where_done c.write_if_held.result w.in_default.not-Err c.write_if_held.ensures.written))))
+            (rw (set_here old n after below) (ap {A = List ℕ} Some (where_done c.write_if_held.result w.in_default.not-Err c.write_if_held.ensures.written))))
       ],
       left_so_far c.args.held.now old (set old n after) n c.loop-application.invariant.1 others left,
     )

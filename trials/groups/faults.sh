@@ -63,10 +63,11 @@ faults() {
     split_cuts
     repeated
     many_applications
+    few_open_files
     wide_recording
     wide_row
     wide_packet
-    plan 195
+    plan 199
 }
 
 # Copies of the files that are read, for trials in which they are named as files to write.
@@ -437,6 +438,28 @@ END
     gives "split to 2,047 files" 0 "" "$split"
     tell "split to 2,047 files: all of it" "$(diff -r many/split split 2>&1)"
     rm -rf many many.rec
+}
+
+# More than 64 KiB for each of 300 applications, one after the other: more files than stay open, and than may be open.
+few_open_files() {
+    local most split="$tmx split --settings few.toml --dir split --report r few.rec"
+    settings few.toml 5 2048 false 'secondary = "never"' 'ocf = "never"'
+    python3 - <<'END' || no "few.rec isn't made"
+with open("few.rec", "wb") as file:
+    for seen in range(300 * 35):
+        application, count = divmod(seen, 35)
+        head = 5 << 36 | seen % 256 << 24 | seen % 256 << 16
+        file.write(head.to_bytes(6, "big") + (application << 32 | 3 << 30 | count << 16 | 2035).to_bytes(6, "big"))
+        file.write(bytes([seen % 251]) * 2036)
+END
+    python3 "$here/reference.py" expect few.toml few.rec few || no "the reference of few.rec doesn't come to its end"
+    for most in 1000 20; do
+        rm -rf split
+        mkdir split
+        gives "split to 300 files with room for $most open files" 0 "" "ulimit -n $most; $split"
+        tell "split to 300 files with room for $most open files: all of it" "$(diff -r few/split split 2>&1)"
+    done
+    rm -rf few few.rec
 }
 
 # A thousand fields that each are nearly all of the longest packet: a row of 262 MB.

@@ -128,7 +128,7 @@ impl<R: Files + AllocGlobal> Folder<'_, R> {
 
     // Opens the file of this name by these options. If it can't be opened while others are, those are closed and it is
     // tried once more.
-    fn open_by(
+    fn open_or_make_room(
         &self,
         options: &OpenOptions,
         name: &str,
@@ -159,7 +159,7 @@ impl<R: Files + AllocGlobal> Folder<'_, R> {
         } else {
             options.write(true).create(true).truncate(true);
         }
-        self.open_by(&options, name, opened)
+        self.open_or_make_room(&options, name, opened)
     }
 
     // Makes the file of an application, and remembers its identity. It stands apart, since most files were begun.
@@ -209,7 +209,7 @@ impl<R: Files + AllocGlobal> Folder<'_, R> {
         opened: &mut Vec<OpenFile<R::File>>,
     ) -> Result<R::File, ShelfFault> {
         let name = self.name_of(application)?;
-        match self.open_by(OpenOptions::new().append(true), name.as_str(), opened) {
+        match self.open_or_make_room(OpenOptions::new().append(true), name.as_str(), opened) {
             Ok(file) => Ok(file),
             Err(_) => Err(ShelfFault::NotWritten),
         }

@@ -44,11 +44,11 @@ module _ (job : FeedState) (sound : IsSound job) (first second : List ℕ) where
       rw (its_records, its_rest, worked-append job.work sound.state (whole_records job first) (whole_records (fed job first) second)) refl
 
   pub two_octets : fed_octets job (first ++ second) ≡ fed_octets job first ++ fed_octets (fed job first) second
-  two_octets = ap (packed_octets job.only) its_items ∙ octets-append job.only ones others
+  two_octets = ap (packed_octets job.chosen) its_items ∙ octets-append job.chosen ones others
 
   pub two_events : (at : ℕ) → fed_events at job (first ++ second)
       ≡ fed_events at job first ++ fed_events (at + length (fed_octets job first)) (fed job first) second
-  two_events at = ap (events_of job.only at job.work.entries) its_items ∙ events-append job.only at job.work.entries ones others
+  two_events at = ap (events_of job.chosen at job.work.entries) its_items ∙ events-append job.chosen at job.work.entries ones others
 
 -- ---- any number
 

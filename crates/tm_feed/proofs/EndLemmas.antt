@@ -10,7 +10,7 @@ use Rattle.tm_items.specs.Item.{Item, Short}
 use Rattle.tm_items.specs.Sinks.{RefusesOne}
 use Rattle.tm_reassembly.specs.declared.fault.StepFault.{StepFault}
 use Rattle.tm_reassembly.specs.declared.fault.StepFault.TheVariants.{Sink, Failed, TooMany}
-use Rattle.tm_reassembly.specs.Bounds.{event_count, event_counts, packet_size, packet_sizes}
+use Rattle.tm_reassembly.specs.Bounds.{event_count, event_counts}
 use Rattle.tm_reassembly.specs.Items.{close_channels, close_last, close_tail, closing}
 use Rattle.tm_reassembly.specs.State.{Last, Tail}
 use Rattle.tm_reassembly.specs.Steps.{CloseRefused, Progress}
@@ -22,7 +22,7 @@ use Rattle.tm_feed.specs.Feeding.{events_of, packed_octets}
 use Rattle.tm_feed.specs.Jobs.{events_most}
 use Rattle.tm_feed.specs.code.Groups.{HasPut}
 use Rattle.tm_feed.specs.code.Sinking.{Lacks, RefusesEvents, SinkState, TakesAsEvents}
-use Rattle.tm_feed.proofs.RoomLemmas.{all_few, all_octets_few}
+use Rattle.tm_feed.proofs.RoomLemmas.{all_few, none_packed, packet_count, packet_counts}
 use Rattle.tm_feed.proofs.TakeLemmas.{one_lacks}
 
 -- ---- the items of a closed end
@@ -30,45 +30,45 @@ use Rattle.tm_feed.proofs.TakeLemmas.{one_lacks}
 -- at most one event for each, and no packet
 pub record AreFew (xs : List Item) (most : ℕ) : Type 0 where
   pub events : event_counts xs ≤ most
-  pub octets : packet_sizes xs ≡ 0
+  pub packets : packet_counts xs ≡ 0
 
 few_both : (xs ys : List Item) (m n : ℕ) → AreFew xs m → AreFew ys n → AreFew (xs ++ ys) (m + n)
 few_both xs ys m n h k = record {
   events = omega (arith, sum_by-append event_count xs ys, h.events, k.events);
-  octets = sum_by-append packet_size xs ys ∙ omega (arith, h.octets, k.octets);
+  packets = sum_by-append packet_count xs ys ∙ omega (arith, h.packets, k.packets);
 }
 
 tail_few : (number channel : ℕ) (t : Option Tail) → AreFew (close_tail number channel t) 1
-tail_few number channel None = record { events = omega arith; octets = refl }
-tail_few number channel (Some t) = record { events = omega arith; octets = refl }
+tail_few number channel None = record { events = omega arith; packets = refl }
+tail_few number channel (Some t) = record { events = omega arith; packets = refl }
 
 last_few : (number channel : ℕ) (x : Option Last) → AreFew (close_last number channel x) 1
-last_few number channel None = record { events = omega arith; octets = refl }
+last_few number channel None = record { events = omega arith; packets = refl }
 last_few number channel (Some last) = tail_few number channel last.tail
 
 channels_few : (number channel : ℕ) (xs : List (Option Last)) → AreFew (close_channels number channel xs) (length xs)
-channels_few number channel [] = record { events = omega arith; octets = refl }
+channels_few number channel [] = record { events = omega arith; packets = refl }
 channels_few number channel (x ∷ xs) =
     let both = few_both (close_last number channel x) (close_channels number (channel + 1) xs) 1 (length xs) (last_few number channel x) (channels_few number (channel + 1) xs) in
-    record { events = omega (arith, both.events); octets = both.octets }
+    record { events = omega (arith, both.events); packets = both.packets }
 
 short_few : (b : Bool) (number rest : ℕ) → AreFew (if b then Short number rest ∷ [] else []) 1
-short_few true number rest = record { events = omega arith; octets = refl }
-short_few false number rest = record { events = omega arith; octets = refl }
+short_few true number rest = record { events = omega arith; packets = refl }
+short_few false number rest = record { events = omega arith; packets = refl }
 
 module _ (p : Progress) (going : IsGoing p) (rest : ℕ) where
   closing_few : AreFew (closing p.state rest) 9
   closing_few =
       let both = few_both _ (close_channels p.state.records 0 p.state.channels) 1 (length p.state.channels) (short_few (nat_lt 0 rest) p.state.records rest)
       (channels_few p.state.records 0 p.state.channels) in
-      record { events = omega (arith, both.events, going.1.shape.eight_channels); octets = both.octets }
+      record { events = omega (arith, both.events, going.1.shape.eight_channels); packets = both.packets }
 
   module _ (s : SinkState) (empty : s.events ≡ []) (none : s.octets ≡ []) (room : events_most ≤ s.fixture.event_room) where
-    its_lacking : Lacks s (events_of s.fixture.only (length s.octets) s.entries (closing p.state rest)) (packed_octets s.fixture.only (closing p.state rest)) → ⊥
+    its_lacking : Lacks s (events_of s.fixture.chosen (length s.octets) s.entries (closing p.state rest)) (packed_octets s.fixture.chosen (closing p.state rest)) → ⊥
     its_lacking (inl h) =
-        omega (arith, h, room, ap length empty, all_few s.fixture.only (length s.octets) s.entries (closing p.state rest), closing_few.events)
+        omega (arith, h, room, ap length empty, all_few s.fixture.chosen (length s.octets) s.entries (closing p.state rest), closing_few.events, closing_few.packets)
     its_lacking (inr h) =
-        omega (arith, h, ap length none, all_octets_few s.fixture.only (closing p.state rest), closing_few.octets)
+        omega (arith, h, ap length none, none_packed s.fixture.chosen (closing p.state rest) closing_few.packets)
 
     pub closing_taken : {S F : Type 0} (known : S → SinkState) (old new : S) (fault : StepFault F) → s ≡ known old
         → CloseRefused known TakesAsEvents RefusesEvents p old new (closing p.state rest) fault → ⊥

@@ -140,6 +140,6 @@ module _ (p : Progress) (going : IsGoing p) (some : 0 < record_length_of p.rules
 
 -- what stands in rooms that held nothing
 pub gave_all : (s t : SinkState) (xs : List Item) → t ≡ after_items s xs → s.events ≡ [] → s.octets ≡ []
-    → (t.events ≡ events_of s.fixture.only 0 s.entries xs) × (t.octets ≡ packed_octets s.fixture.only xs)
+    → (t.events ≡ events_of s.fixture.chosen 0 s.entries xs) × (t.octets ≡ packed_octets s.fixture.chosen xs)
 gave_all s t xs is none empty =
     (ap (λ (u : SinkState). u.events) is ∙ rw (none, empty) refl, ap (λ (u : SinkState). u.octets) is ∙ rw empty refl)

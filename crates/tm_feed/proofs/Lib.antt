@@ -5,4 +5,5 @@ pub mod FeedLemmas
 pub mod EndLemmas
 pub mod CallLemmas
 pub mod OnlyLemmas
+pub mod ChoiceLemmas
 pub mod LineLemmas

@@ -1,6 +1,6 @@
 -- What events say is what the program says.
-use Rattle.std.proofs.Common.{◌≡◌, ℕ, eqb, Bool, true, false, ◌+◌, Some, List, [], ◌∷◌, ◌++◌, length, map, refl, ap, ◌∙◌, append-nil, arith}
-use Rattle.std.specs.Prelude.{not, if◌then◌else◌, slice_get}
+use Rattle.std.proofs.Common.{◌≡◌, ℕ, eqb, Bool, true, false, ◌+◌, Option, Some, None, List, [], ◌∷◌, ◌++◌, length, map, refl, sym, ap, ◌∙◌, append_assoc, append-nil, arith}
+use Rattle.std.specs.Prelude.{not, if◌then◌else◌, slice_get, Result, Ok, Err}
 use Rattle.std.specs.List.{flat_map}
 use Rattle.std.proofs.lemmas.Bool.{le-ltb}
 use Rattle.std.proofs.lemmas.Grind.{flat_map-append}
@@ -23,12 +23,17 @@ use Rattle.tm_items.specs.declared.items.Reason.TheVariants as reason
 use Rattle.tm_items.specs.Reasons.{all_reasons}
 use Rattle.tm_items.specs.Item.{Item, Bad, MasterGap, Gap, Vca, Dropped, Packet, Short}
 use Rattle.tm_lines.specs.Lines.{note_line, note_lines, packet_line}
-use Rattle.tm_output.specs.Pieces.{item_line, listed, noted, notes_of, pieces_of, report_of, sent, text_of}
+use Rattle.tm_output.specs.Pieces.{Texts, item_line, listed, no_remark, noted, notes_of, pieces_of, report_of, sent, text_of}
 use Rattle.tm_output.specs.declared.command.Command.TheVariants.{Extract, Packets}
 use Rattle.tm_feed.specs.EventLines.{all_flags, all_whys, event_line, nth_of, packet_lines, report_lines}
 use Rattle.tm_feed.specs.Events.{bit, item_event, note_event, reason_number, why_number}
-use Rattle.tm_feed.specs.Feeding.{events_of, gives, item_events, item_octets, noted_events, packet_events}
-use Rattle.tm_feed.specs.Jobs.{all_given}
+use Rattle.tm_feed.specs.Feeding.{events_of, gives, item_events, item_octets, made_events, noted_events, packet_events, packet_octets, packet_row, row_events}
+use Rattle.tm_feed.specs.Jobs.{all_given, without_rows}
+use Rattle.tm_feed.specs.States.{Chosen}
+use Rattle.tm_fields.specs.declared.faults.RowFault.{RowFault}
+use Rattle.tm_fields.specs.declared.faults.RowFault.TheVariants.{ShortPacket, NoMemory}
+use Rattle.tm_fields.specs.declared.lead.Lead.{Lead}
+use Rattle.tm_output.specs.FieldRows.{lead_of}
 
 -- ---- a number, and what has it
 
@@ -111,57 +116,96 @@ noted_said seen channel application (note.Stray count f ∷ ns) =
     rw (flags_back f) (ap (λ (l : List ℕ). note_line seen channel application (note.Stray count f) ++ l) (noted_said seen channel application ns))
 
 -- the report
-module _ (only : List Bool) where
+module _ (chosen : Chosen) where
   own_silent : (at : ℕ) (seen channel first place : ℕ) (octets : List ℕ)
-      → report_lines (packet_events only at (Packet seen channel first place octets)) ≡ []
+      → report_lines (packet_events chosen at (Packet seen channel first place octets)) ≡ []
   own_silent at seen channel first place octets =
-      elim (gives only (packet_header_of octets).application) as (λ b. report_lines (if b then item_event at (Packet seen channel first place octets) ∷ [] else []) ≡ []) [
+      elim (gives chosen.only (packet_header_of octets).application) as (λ b. report_lines (if b then item_event at (Packet seen channel first place octets) ∷ [] else []) ≡ []) [
         | true ↦ refl
         | false ↦ refl
       ]
 
-  item_reported : (at : ℕ) (entries : Entries) (x : Item) → report_lines (item_events only at entries x) ≡ report_of entries x
+  own_reported : (at : ℕ) (entries : Entries) (x : Item)
+      → report_lines (packet_events chosen at x) ++ report_lines (noted_events entries x) ≡ report_of entries x
   unfolding report_of item_line
-  item_reported at entries (Packet seen channel first place octets) =
-      flat_map-append _ (packet_events only at (Packet seen channel first place octets)) (noted_events entries (Packet seen channel first place octets))
-      ∙ rw (own_silent at seen channel first place octets) (noted_said seen channel _ _)
-  item_reported at entries (Bad seen f) = rw (fault_back f) (append-nil _)
-  item_reported at entries (MasterGap seen expected found missing) = append-nil _
-  item_reported at entries (Gap seen channel expected found missing) = append-nil _
-  item_reported at entries (Vca seen channel) = append-nil _
-  item_reported at entries (Dropped seen channel first place octets r) = rw (reason_back r) (append-nil _)
-  item_reported at entries (Short seen octets) = append-nil _
+  own_reported at entries (Packet seen channel first place octets) =
+      rw (own_silent at seen channel first place octets) (noted_said seen channel _ _)
+  own_reported at entries (Bad seen f) = rw (fault_back f) (append-nil _ ∙ append-nil _)
+  own_reported at entries (MasterGap seen expected found missing) = append-nil _ ∙ append-nil _
+  own_reported at entries (Gap seen channel expected found missing) = append-nil _ ∙ append-nil _
+  own_reported at entries (Vca seen channel) = append-nil _ ∙ append-nil _
+  own_reported at entries (Dropped seen channel first place octets r) = rw (reason_back r) (append-nil _ ∙ append-nil _)
+  own_reported at entries (Short seen octets) = append-nil _ ∙ append-nil _
 
-  pub all_reported : (at : ℕ) (entries : Entries) (xs : List Item)
-      → report_lines (events_of only at entries xs) ≡ flat_map (λ piece. piece.report) (pieces_of (text_of Extract) entries xs)
-  all_reported at entries [] = refl
-  all_reported at entries (x ∷ xs) =
-      flat_map-append _ (item_events only at entries x) (events_of only (at + length (item_octets only x)) (noted entries x) xs)
-      ∙ rw (item_reported at entries x, all_reported (at + length (item_octets only x)) (noted entries x) xs, append-nil (report_of entries x)) refl
+  module _ {A : Type 0} (text : Texts A) (remarked : (at : ℕ) (x : Item) → report_lines (row_events chosen at x) ≡ text.remark x) where
+    item_reported : (at : ℕ) (entries : Entries) (x : Item) → report_lines (item_events chosen at entries x) ≡ report_of entries x ++ text.remark x
+    item_reported at entries x =
+        let far : ℕ = at + length (packet_octets chosen x) in
+        flat_map-append _ (packet_events chosen at x) (noted_events entries x ++ row_events chosen far x)
+        ∙ ap (λ (l : List ℕ). report_lines (packet_events chosen at x) ++ l) (flat_map-append _ (noted_events entries x) (row_events chosen far x))
+        ∙ sym (append_assoc (report_lines (packet_events chosen at x)) (report_lines (noted_events entries x)) (report_lines (row_events chosen far x)))
+        ∙ rw (own_reported at entries x, remarked far x) refl
+
+    pub all_said : (at : ℕ) (entries : Entries) (xs : List Item)
+        → report_lines (events_of chosen at entries xs) ≡ flat_map (λ piece. piece.report) (pieces_of text entries xs)
+    all_said at entries [] = refl
+    all_said at entries (x ∷ xs) =
+        flat_map-append _ (item_events chosen at entries x) (events_of chosen (at + length (item_octets chosen x)) (noted entries x) xs)
+        ∙ rw (item_reported at entries x, all_said (at + length (item_octets chosen x)) (noted entries x) xs) refl
+
+-- without rows
+no_row_told : (only : List Bool) (at : ℕ) (x : Item) → report_lines (row_events (without_rows only) at x) ≡ no_remark x
+no_row_told only at (Packet seen channel first place octets) = refl
+no_row_told only at _ = refl
+
+pub all_reported : (only : List Bool) (at : ℕ) (entries : Entries) (xs : List Item)
+    → report_lines (events_of (without_rows only) at entries xs) ≡ flat_map (λ piece. piece.report) (pieces_of (text_of Extract) entries xs)
+all_reported only at entries xs = all_said (without_rows only) (text_of Extract) (no_row_told only) at entries xs
 
 -- the list of packets
 its_given : (octets : List ℕ) → gives all_given (packet_header_of octets).application ≡ true
 unfolding all_given
 its_given octets = get_or-replicate 2048 (packet_header_of octets).application true false (omega (arith, (header-range octets).application))
 
-item_listed : (at : ℕ) (entries : Entries) (x : Item) → packet_lines (item_events all_given at entries x) ≡ listed x
-unfolding listed
-item_listed at entries (Packet seen channel first place octets) =
-    flat_map-append _ (packet_events all_given at (Packet seen channel first place octets)) (noted_events entries (Packet seen channel first place octets))
-    ∙ rw (its_given octets, packet_said seen channel first place octets at, noted_silent seen channel (packet_header_of octets).application (notes_of entries (sent channel octets)))
-    (append-nil _ ∙ append-nil _)
-item_listed at entries (Bad seen f) = refl
-item_listed at entries (MasterGap seen expected found missing) = refl
-item_listed at entries (Gap seen channel expected found missing) = refl
-item_listed at entries (Vca seen channel) = refl
-item_listed at entries (Dropped seen channel first place octets r) = refl
-item_listed at entries (Short seen octets) = refl
+made_silent : (at first place : ℕ) (lead : Lead) (packet : List ℕ) (made : Option (Result (List ℕ) RowFault))
+    → packet_lines (made_events at first place lead packet made) ≡ []
+made_silent at first place lead packet None = refl
+made_silent at first place lead packet (Some (Ok row)) = refl
+made_silent at first place lead packet (Some (Err (ShortPacket needed found))) = refl
+made_silent at first place lead packet (Some (Err NoMemory)) = refl
 
-pub all_listed : (at : ℕ) (entries : Entries) (xs : List Item)
-    → packet_lines (events_of all_given at entries xs) ≡ flat_map (λ piece. piece.out) (pieces_of (text_of Packets) entries xs)
-all_listed at entries [] = refl
-all_listed at entries (x ∷ xs) =
-    flat_map-append _ (item_events all_given at entries x) (events_of all_given (at + length (item_octets all_given x)) (noted entries x) xs)
-    ∙ rw (item_listed at entries x, all_listed (at + length (item_octets all_given x)) (noted entries x) xs) refl
+module _ (chosen : Chosen) (all : chosen.only ≡ all_given) where
+  rows_silent : (at : ℕ) (x : Item) → packet_lines (row_events chosen at x) ≡ []
+  rows_silent at (Packet seen channel first place octets) =
+      made_silent at first place (lead_of seen channel octets) octets (packet_row chosen seen channel octets)
+  rows_silent at _ = refl
+
+  own_listed : (at : ℕ) (entries : Entries) (x : Item)
+      → packet_lines (packet_events chosen at x) ++ packet_lines (noted_events entries x) ≡ listed x
+  unfolding listed
+  own_listed at entries (Packet seen channel first place octets) =
+      rw (all, its_given octets, packet_said seen channel first place octets at, noted_silent seen channel (packet_header_of octets).application (notes_of entries (sent channel octets)))
+      (append-nil _ ∙ append-nil _)
+  own_listed at entries (Bad seen f) = refl
+  own_listed at entries (MasterGap seen expected found missing) = refl
+  own_listed at entries (Gap seen channel expected found missing) = refl
+  own_listed at entries (Vca seen channel) = refl
+  own_listed at entries (Dropped seen channel first place octets r) = refl
+  own_listed at entries (Short seen octets) = refl
+
+  item_listed : (at : ℕ) (entries : Entries) (x : Item) → packet_lines (item_events chosen at entries x) ≡ listed x
+  item_listed at entries x =
+      let far : ℕ = at + length (packet_octets chosen x) in
+      flat_map-append _ (packet_events chosen at x) (noted_events entries x ++ row_events chosen far x)
+      ∙ ap (λ (l : List ℕ). packet_lines (packet_events chosen at x) ++ l) (flat_map-append _ (noted_events entries x) (row_events chosen far x))
+      ∙ sym (append_assoc (packet_lines (packet_events chosen at x)) (packet_lines (noted_events entries x)) (packet_lines (row_events chosen far x)))
+      ∙ rw (own_listed at entries x, rows_silent far x) (append-nil (listed x))
+
+  pub all_listed : (at : ℕ) (entries : Entries) (xs : List Item)
+      → packet_lines (events_of chosen at entries xs) ≡ flat_map (λ piece. piece.out) (pieces_of (text_of Packets) entries xs)
+  all_listed at entries [] = refl
+  all_listed at entries (x ∷ xs) =
+      flat_map-append _ (item_events chosen at entries x) (events_of chosen (at + length (item_octets chosen x)) (noted entries x) xs)
+      ∙ rw (item_listed at entries x, all_listed (at + length (item_octets chosen x)) (noted entries x) xs) refl
 
 pub ruleset lines_said = (note_said, all_reported, all_listed)

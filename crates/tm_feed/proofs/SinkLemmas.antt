@@ -1,5 +1,5 @@
 -- What stands in the rooms, and where a room is too small.
-use Rattle.std.proofs.Common.{◌≡◌, ℕ, Bool, ◌+◌, ◌≤◌, List, [], ◌∷◌, ◌++◌, length, inl, inr, subst, refl, sym, ap, ◌∙◌, append_assoc, append-nil, length-append, arith}
+use Rattle.std.proofs.Common.{◌≡◌, ℕ, ◌+◌, ◌≤◌, List, [], ◌∷◌, ◌++◌, length, inl, inr, subst, refl, sym, ap, ◌∙◌, append_assoc, append-nil, length-append, arith}
 use Rattle.tm_packet.specs.Header.{packet_header_of}
 use Rattle.tm_packet.specs.declared.notes.Note.{Note}
 use Rattle.tm_packet.specs.Merge as sequence
@@ -14,7 +14,8 @@ use Rattle.tm_items.proofs.Headers.{header-front}
 use Rattle.tm_items.proofs.Reaching.{packet_length-long, packet_length_least}
 use Rattle.tm_feed.specs.declared.event.Event.{Event}
 use Rattle.tm_feed.specs.Events.{item_event}
-use Rattle.tm_feed.specs.Feeding.{item_events, item_octets, noted_events, packet_events}
+use Rattle.tm_feed.specs.Feeding.{item_events, item_octets, noted_events, packet_events, packet_octets, row_events, row_given}
+use Rattle.tm_feed.specs.States.{Chosen}
 use Rattle.tm_feed.specs.code.Sinking.{Lacks, AddsEvents, RefusesEvents, SinkState, TakesAsEvents, note_events, with_more}
 
 -- a whole packet has the octets that its header tells
@@ -46,41 +47,80 @@ lacks_longer s xs ys os ps (inr h) = inr (omega (arith, length-append os ps))
 
 module _ (s : SinkState) (x : Item) where
   abbrev own : List Event
-  own = packet_events s.fixture.only (length s.octets) x
+  own = packet_events s.fixture.chosen (length s.octets) x
 
   abbrev its_octets : List ℕ
-  its_octets = item_octets s.fixture.only x
+  its_octets = packet_octets s.fixture.chosen x
 
-  -- its event or none, and then those of its notes
-  pub taken : (t u : SinkState) → AddsEvents s t s.entries own its_octets → AddsEvents t u (noted t.entries x) (noted_events t.entries x) [] → TakesAsEvents s x u
-  taken t u first notes =
-      notes
-      ∙ rw first (more_more s s.entries (noted s.entries x) own (noted_events s.entries x) its_octets [])
-      ∙ ap (λ (l : List Event). with_more s (noted s.entries x) l (its_octets ++ [])) (sym (append-nil (own ++ noted_events s.entries x)))
+  abbrev notes : List Event
+  notes = noted_events s.entries x
+
+  abbrev rows : List Event
+  rows = row_events s.fixture.chosen (length s.octets + length its_octets) x
+
+  abbrev row : List ℕ
+  row = row_given s.fixture.chosen x
+
+  -- after its event and those of its notes
+  both : (t u : SinkState) → AddsEvents s t s.entries own its_octets → AddsEvents t u (noted t.entries x) (noted_events t.entries x) []
+      → u ≡ with_more s (noted s.entries x) (own ++ notes) its_octets
+  both t u first second =
+      second
+      ∙ rw first (more_more s s.entries (noted s.entries x) own notes its_octets [])
+      ∙ ap (λ (l : List ℕ). with_more s (noted s.entries x) (own ++ notes) l) (append-nil its_octets)
+
+  -- its event or none, those of its notes, and then that of its row
+  pub taken : (t u v : SinkState) → AddsEvents s t s.entries own its_octets → AddsEvents t u (noted t.entries x) (noted_events t.entries x) []
+      → AddsEvents u v u.entries (row_events u.fixture.chosen (length u.octets) x) (row_given u.fixture.chosen x) → TakesAsEvents s x v
+  taken t u v first second third =
+      let w : SinkState = with_more s (noted s.entries x) (own ++ notes) its_octets in
+      let far : length (s.octets ++ its_octets) ≡ length s.octets + length its_octets = length-append s.octets its_octets in
+      let after : v ≡ with_more w w.entries (row_events s.fixture.chosen (length w.octets) x) row =
+      subst (λ (z : SinkState). v ≡ with_more z z.entries (row_events z.fixture.chosen (length z.octets) x) (row_given z.fixture.chosen x)) (both t u first second) third in
+      let all : v ≡ with_more w (noted s.entries x) rows row =
+      subst (λ (n : ℕ). v ≡ with_more w (noted s.entries x) (row_events s.fixture.chosen n x) row) far after in
+      all
+      ∙ more_more s (noted s.entries x) (noted s.entries x) (own ++ notes) rows its_octets row
+      ∙ ap (λ (l : List Event). with_more s (noted s.entries x) l (its_octets ++ row)) (append_assoc own notes rows ∙ sym (append-nil (own ++ (notes ++ rows))))
+      ∙ ap (λ (l : List ℕ). with_more s (noted s.entries x) ((own ++ (notes ++ rows)) ++ []) l) (sym (append-nil (its_octets ++ row)))
 
   pub refused_first : {F : Type 0} (fault : F) (t : SinkState) → Lacks s own its_octets → RefusesEvents s x fault t
-  refused_first fault t h = rw (append-nil its_octets) at (lacks_longer s own (noted_events s.entries x) its_octets [] h)
+  refused_first fault t h = lacks_longer s own (notes ++ rows) its_octets row h
 
   pub refused_notes : {F : Type 0} (fault : F) (t u : SinkState) → AddsEvents s t s.entries own its_octets → Lacks t (noted_events t.entries x) []
       → RefusesEvents s x fault u
   refused_notes fault t u first h =
-      rw (append-nil its_octets) at (lacks_more s s.entries own (noted_events s.entries x) its_octets [] (subst (λ (v : SinkState). Lacks v (noted_events v.entries x) []) first h))
+      let there = lacks_more s s.entries own notes its_octets [] (subst (λ (v : SinkState). Lacks v (noted_events v.entries x) []) first h) in
+      let all = lacks_longer s (own ++ notes) rows (its_octets ++ []) row there in
+      rw (append-nil its_octets, append_assoc own notes rows) at all
+
+  pub refused_row : {F : Type 0} (fault : F) (t u v : SinkState) → AddsEvents s t s.entries own its_octets
+      → AddsEvents t u (noted t.entries x) (noted_events t.entries x) []
+      → Lacks u (row_events u.fixture.chosen (length u.octets) x) (row_given u.fixture.chosen x) → RefusesEvents s x fault v
+  refused_row fault t u v first second h =
+      let w : SinkState = with_more s (noted s.entries x) (own ++ notes) its_octets in
+      let far : length (s.octets ++ its_octets) ≡ length s.octets + length its_octets = length-append s.octets its_octets in
+      let after : Lacks w (row_events s.fixture.chosen (length w.octets) x) row =
+      subst (λ (z : SinkState). Lacks z (row_events z.fixture.chosen (length z.octets) x) (row_given z.fixture.chosen x)) (both t u first second) h in
+      let there : Lacks w rows row = subst (λ (n : ℕ). Lacks w (row_events s.fixture.chosen n x) row) far after in
+      let all = lacks_more s (noted s.entries x) (own ++ notes) rows its_octets row there in
+      rw (append_assoc own notes rows) at all
 
 -- an item that is no packet has its event alone
-other_events : (only : List Bool) (at : ℕ) (entries : Entries) (x : Item) → HasLine x
-    → (item_events only at entries x ≡ item_event 0 x ∷ []) × (item_octets only x ≡ []) × (noted entries x ≡ entries)
+other_events : (chosen : Chosen) (at : ℕ) (entries : Entries) (x : Item) → HasLine x
+    → (item_events chosen at entries x ≡ item_event 0 x ∷ []) × (item_octets chosen x ≡ []) × (noted entries x ≡ entries)
 unfolding noted
-other_events only at entries (Packet seen channel first place octets) has = absurd has
-other_events only at entries _ has = (refl, refl, refl)
+other_events chosen at entries (Packet seen channel first place octets) has = absurd has
+other_events chosen at entries _ has = (refl, refl, refl)
 
 pub other_taken : (s t : SinkState) (x : Item) → HasLine x → AddsEvents s t s.entries (item_event 0 x ∷ []) [] → TakesAsEvents s x t
 other_taken s t x has put =
-    let is = other_events s.fixture.only (length s.octets) s.entries x has in
+    let is = other_events s.fixture.chosen (length s.octets) s.entries x has in
     put ∙ rw (is.0, is.1, is.2) refl
 
 pub other_refused : {F : Type 0} (s t : SinkState) (x : Item) (fault : F) → HasLine x → Lacks s (item_event 0 x ∷ []) [] → RefusesEvents s x fault t
 other_refused s t x fault has lacks =
-    let is = other_events s.fixture.only (length s.octets) s.entries x has in
+    let is = other_events s.fixture.chosen (length s.octets) s.entries x has in
     rw (is.0, is.1) lacks
 
 -- ---- its notes
@@ -113,4 +153,4 @@ no_notes s t p header none is =
     ∙ sym more
     ∙ ap (λ (l : List Event). with_more s (noted s.entries (item_with p)) l []) (notes_are s.entries p header [] none)
 
-pub ruleset one_packet = (taken, refused_first, refused_notes)
+pub ruleset one_packet = (taken, refused_first, refused_notes, refused_row)

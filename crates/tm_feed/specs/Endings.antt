@@ -23,7 +23,7 @@ group_events job key = map (unclosed_event job.work.state.records) (unclosed key
 
 -- the events of the items of the closed end
 abbrev pub closing_events : FeedState → List Event
-closing_events job = events_of job.only 0 job.work.entries (closing job.work.state (length job.part))
+closing_events job = events_of job.chosen 0 job.work.entries (closing job.work.state (length job.part))
 
 -- the events that are still to be given
 abbrev pub end_events_by : FeedState → EndProgress → List Event

@@ -1,5 +1,5 @@
 -- The line of an event: the one that the program prints.
-use Rattle.std.specs.Prelude.{ℕ, zero, suc, ◌==◌, not, Option, Some, None, List, [], ◌∷◌, slice_get, if◌then◌else◌}
+use Rattle.std.specs.Prelude.{ℕ, zero, suc, ◌*◌, ◌==◌, not, Option, Some, None, List, [], ◌∷◌, slice_get, if◌then◌else◌}
 use Rattle.std.specs.List.{flat_map}
 use Rattle.std.specs.Option.{option_map, option_and_then, unwrap_or}
 use Rattle.tm_frame.specs.Fault.{all_faults}
@@ -11,7 +11,7 @@ use Rattle.tm_packet.specs.declared.notes.Why.{Why}
 use Rattle.tm_packet.specs.declared.notes.Why.TheVariants as why
 use Rattle.tm_packet.specs.Header.{Fields, made_of}
 use Rattle.tm_items.specs.Reasons.{all_reasons}
-use Rattle.tm_lines.specs.Lines.{bad_line, drop_line, gap_line, master_gap_line, note_line, packet_line, short_line, vca_line}
+use Rattle.tm_lines.specs.Lines.{bad_line, drop_line, gap_line, master_gap_line, note_line, packet_line, short_line, short_packet_line, vca_line}
 use Rattle.tm_feed.specs.declared.event.Event.{Event}
 
 -- what has this number in a list that is numbered from 1
@@ -62,6 +62,7 @@ event_line e =
     else if e.kind == 5 then Some (vca_line e.seen e.channel)
     else if e.kind == 6 then option_map (drop_line e.seen e.channel e.from e.place e.octets) (nth_of all_reasons e.why)
     else if e.kind == 7 then Some (short_line e.seen e.octets)
+    else if e.kind == 13 then Some (short_packet_line e.seen e.channel e.from e.place e.at (8 * e.octets))
     else option_map (note_line e.seen e.channel e.application) (note_told e)
 
 -- ---- of several events

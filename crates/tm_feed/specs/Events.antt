@@ -6,6 +6,7 @@ use Rattle.tm_packet.specs.declared.notes.Note.TheVariants as note
 use Rattle.tm_packet.specs.declared.notes.Why.{Why}
 use Rattle.tm_packet.specs.declared.notes.Why.TheVariants as why
 use Rattle.tm_packet.specs.Header.{flags_number, packet_header_of}
+use Rattle.tm_fields.specs.declared.lead.Lead.{Lead}
 use Rattle.tm_items.specs.declared.items.Reason.{Reason}
 use Rattle.tm_items.specs.Reasons.{reason_place}
 use Rattle.tm_items.specs.Item.{Item, Bad, MasterGap, Gap, Vca, Dropped, Packet, Short}
@@ -83,3 +84,21 @@ note_event seen channel application (note.Whole first last) =
     record (blank 10 seen) { application = application; channel = channel; expected = first; found = last }
 note_event seen channel application (note.Stray count flags) =
     record (blank 11 seen) { application = application; channel = channel; count = count; flags = flags_number flags }
+
+-- the event of a row of so many octets, which begin at this place of the room
+abbrev pub row_event : ℕ → Lead → ℕ → Event
+row_event at lead octets =
+    record (blank 12 lead.seen) { octets = octets; at = at; application = lead.application; count = lead.count; channel = lead.channel }
+
+-- the event of a packet that has fewer bits than its fields need
+abbrev pub short_packet_event : (first place : ℕ) → Lead → (needed octets : ℕ) → Event
+short_packet_event first place lead needed octets =
+    record (blank 13 lead.seen) {
+      from = first;
+      octets = octets;
+      at = needed;
+      place = place;
+      application = lead.application;
+      count = lead.count;
+      channel = lead.channel;
+    }

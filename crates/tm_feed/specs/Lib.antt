@@ -4,6 +4,7 @@ pub mod Feeding
 pub mod States
 pub mod Jobs
 pub mod Only
+pub mod Choosing
 pub mod Endings
 pub mod code
 pub mod Calls

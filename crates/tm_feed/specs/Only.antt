@@ -23,4 +23,5 @@ pub record AreTheseGiven (applications : List ℕ) (only : List Bool) : Type 0 w
 
 -- from now on a job gives the packets of these applications alone
 abbrev pub GivesOnly : List ℕ → FeedState → FeedState → Type 0
-GivesOnly applications old new = AreTheseGiven applications new.only × (new ≡ record old { only = new.only })
+GivesOnly applications old new =
+    AreTheseGiven applications new.chosen.only × (new ≡ record old { chosen = record old.chosen { only = new.chosen.only } })

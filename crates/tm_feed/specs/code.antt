@@ -1,3 +1,4 @@
+pub mod Choices
 pub mod Sinking
 pub mod Taking
 pub mod Groups

@@ -10,6 +10,7 @@ ghost use Rattle.tm_feed.specs.Jobs.{StandsIn, events_most};
 ghost use Rattle.tm_feed.specs.code.Sinking.{after_items, sink_state};
 ghost use Rattle.tm_feed.specs.code.Groups.{HasPut, IsFilled, left_from};
 
+use crate::choice::Choice;
 use crate::event::{Event, note_event};
 use crate::sink::EventSink;
 use tm_packet::{Pair, Tracker, Unclosed};
@@ -70,20 +71,21 @@ fn close_into(reassembly: &Reassembly, rest: usize, sink: &mut EventSink<'_>)
 pub(crate) fn give_closing(
     reassembly: &Reassembly,
     tracker: &mut Tracker,
-    only: &[bool],
+    choice: &mut Choice,
     rest: usize,
     events: &mut [Event],
 ) -> usize
     requires rest { rest < record_length_of reassembly.now.rules.layout }
     requires going { IsGoing reassembly.now }
     requires room { events_most ≤ length events.old }
-    ensures gave { StandsIn events.new result (events_of only.now 0 tracker.old (closing reassembly.now.state rest)) }
+    ensures gave { StandsIn events.new result (events_of choice.old.chosen 0 tracker.old (closing reassembly.now.state rest)) }
     ensures tracker { tracker.new ≡ tracker.old }
+    ensures choice { choice.new.chosen ≡ choice.old.chosen }
 {
     let mut nothing: [u8; 0] = [];
     let mut sink = EventSink {
         tracker,
-        only,
+        choice,
         events,
         filled: 0,
         octets: &mut nothing,

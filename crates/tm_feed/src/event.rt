@@ -1,13 +1,15 @@
 //! Events: what is reported of records, in numbers of fixed size, as a caller in C reads them.
 
-ghost use Rattle.std.specs.Prelude.{◌≡◌};
+ghost use Rattle.std.specs.Prelude.{◌≡◌, length};
 ghost use Rattle.tm_items.specs.OnePacket.{IsOnePacket};
 ghost use Rattle.tm_items.specs.Sinks.{item_of};
+ghost use Rattle.tm_output.specs.FieldRows.{lead_of};
 ghost use Rattle.tm_output.specs.Packets.{HasHeader, item_with};
 ghost use Rattle.tm_output.specs.Pieces.{HasLine};
 ghost use Rattle.tm_packet.specs.Header.{flags_number};
-ghost use Rattle.tm_feed.specs.Events.{bit, blank, item_event, note_event, reason_number, why_number};
+ghost use Rattle.tm_feed.specs.Events.{bit, blank, item_event, note_event, reason_number, row_event, short_packet_event, why_number};
 
+use tm_fields::Lead;
 use tm_items::{Item, Reason};
 use tm_lines::Packet;
 use tm_packet::{Flags, Note, Why};
@@ -22,15 +24,15 @@ pub struct Event {
     pub seen: u32,
     /// The record in which a packet or a dropped part begins.
     pub from: u32,
-    /// How many octets a packet, a dropped part or a short record has.
+    /// How many octets a packet, a dropped part, a short record or a row has.
     pub octets: u32,
-    /// Where the packet's octets begin in the room of octets.
+    /// Where the octets of a packet or row begin in the room of octets; of a packet that is too short for a row how many bits that needs.
     pub at: u64,
     /// The place in the data field of `from` at which a packet or a dropped part begins.
     pub place: u16,
-    /// The application of a packet or of a note.
+    /// The application of a packet, a note or a row.
     pub application: u16,
-    /// The sequence count of a packet or of a stray.
+    /// The sequence count of a packet, a stray or a row's packet.
     pub count: u16,
     /// The count that a gap expected; a group's first count.
     pub expected: u16,
@@ -74,6 +76,10 @@ pub const BROKEN: u8 = 9;
 pub const GROUP: u8 = 10;
 /// A packet that should be in a group, and is in none.
 pub const STRAY: u8 = 11;
+/// A row.
+pub const ROW: u8 = 12;
+/// A packet that is too short for a row.
+pub const SHORT_PACKET: u8 = 13;
 
 // An event of this kind at this record, whose other numbers are 0.
 fn blank(kind: u8, seen: u32) -> Event
@@ -275,4 +281,39 @@ pub(crate) fn note_event(seen: u32, channel: u8, application: u16, note: Note) -
     event.channel = channel;
     event.application = application;
     event
+}
+
+/// The event of a row of so many octets, which begin at this place of the room.
+pub(crate) fn row_event(at: u64, lead: Lead, octets: u32) -> Event
+    ensures { result ≡ row_event at lead octets }
+{
+    Event {
+        octets,
+        at,
+        application: lead.application,
+        count: lead.count,
+        channel: lead.channel,
+        ..blank(ROW, lead.seen)
+    }
+}
+
+/// The event of a packet of these fields' application that has fewer bits than they need.
+#[tactic(auto, using(crate::proofs::SinkLemmas::whole_length))]
+pub(crate) fn short_packet_event(packet: &Packet<'_>, needed: u32) -> Event
+    requires header { HasHeader packet.now }
+    requires whole { IsOnePacket packet.now.octets.now }
+    ensures { result ≡ short_packet_event packet.now.first packet.now.place (lead_of packet.now.seen packet.now.channel packet.now.octets.now)
+        needed (length packet.now.octets.now) }
+{
+    let header = packet.header;
+    Event {
+        from: packet.first,
+        octets: header.length(),
+        at: u64::from(needed),
+        place: packet.place,
+        application: header.application(),
+        count: header.count(),
+        channel: packet.channel,
+        ..blank(SHORT_PACKET, packet.seen)
+    }
 }

@@ -1,13 +1,15 @@
 //! The job: how far it has got, and the calls that feed it.
 
+use crate::choice::{Choice, NoApplication, RowsFault};
 use crate::ending::{give_closing, give_groups};
 use crate::event::Event;
 use crate::sink::EventSink;
-use crate::taking::{EVENTS_MOST, add_octets};
+use crate::taking::{EVENTS_MOST, add_octets, all_events_most, octets_most};
 use std::alloc::{AllocError, Global};
 use std::marker::Model;
 use tm_checkpoint::{read_checkpoint, write_checkpoint};
 use tm_faults::CheckpointFault;
+use tm_fields::Definition;
 use tm_packet::Tracker;
 use tm_reassembly::Reassembly;
 use tm_settings::Settings;
@@ -49,46 +51,13 @@ pub struct Fed {
     pub stop: StopReason,
 }
 
-ghost use Rattle.std.specs.Prelude.{◌≡◌, IfOk, OnErr};
-ghost use Rattle.tm_feed.specs.Jobs.{all_given};
-
-// The packets of all applications are given.
-#[tactic(auto, unfolding(crate::specs::Jobs::all_given))]
-fn all_given() -> [bool; 2048]
-    ensures { result ≡ all_given }
-{
-    [true; 2048]
-}
-
-/// There is no application of a number: they have numbers up to 2047.
-#[derive(Clone, Copy, Debug, PartialEq, Eq)]
-pub struct NoApplication;
-
-ghost use Rattle.tm_feed.specs.Only.{AreTheseGiven, IsNoApplication};
-
-// The packets of these applications are given, and of no others.
-fn only_these(applications: &[u16]) -> Result<[bool; 2048], NoApplication>
-    ensures given { IfOk result (AreTheseGiven applications.now) }
-    ensures refused { OnErr result (IsNoApplication applications.now) }
-{
-    let mut only = [false; 2048];
-    for i in 0..applications.len() {
-        let application = usize::from(applications[i]);
-        if application > 2047 {
-            return Err(NoApplication);
-        }
-        only[application] = true;
-    }
-    Ok(only)
-}
-
 /// A job that is fed with the octets of a recording. It keeps the part of a record that isn't whole.
 #[derive(Drop)]
 pub struct FedJob {
     reassembly: Reassembly,
     tracker: Tracker,
     part: Vec<u8>,
-    only: [bool; 2048],
+    choice: Choice,
     end: EndProgress,
 }
 
@@ -103,7 +72,7 @@ impl Model for FedJob {
     ghost view = { λ j. record {
       work = work_of j.reassembly j.tracker;
       part = j.part.items;
-      only = j.only;
+      chosen = j.choice.chosen;
       end = j.end;
     } };
 
@@ -112,11 +81,12 @@ impl Model for FedJob {
 }
 
 impl FedJob {
-    ghost use Rattle.std.specs.Prelude.{◌≡◌, ◌≢◌, ◌≤◌, Err, length, take, IfOk, IfErr, OnOk, OnErr};
+    ghost use Rattle.std.specs.Prelude.{◌≡◌, ◌≢◌, ◌<◌, ◌≤◌, Err, length, take, IfOk, IfErr, OnOk, OnErr};
     ghost use Rattle.tm_checkpoint.specs.Works.{IsGoing, new_job, work_of};
     ghost use Rattle.tm_checkpoint.specs.Checkpoints.{checkpoint_of, resumed};
     ghost use Rattle.tm_feed.specs.Endings.{EndedBy, GivesEnd};
-    ghost use Rattle.tm_feed.specs.Jobs.{IsFed, GoesOnFrom, IsStopped, new_feed, record_size};
+    ghost use Rattle.tm_feed.specs.Choosing.{GivesRows, row_length_of};
+    ghost use Rattle.tm_feed.specs.Jobs.{IsFed, GoesOnFrom, IsStopped, all_events_most, new_feed, octets_most, record_size};
     ghost use Rattle.tm_feed.specs.Only.{GivesOnly, IsNoApplication};
 
     // With a reassembly and its tracker, and no octets of a further record.
@@ -129,7 +99,7 @@ impl FedJob {
             reassembly,
             tracker,
             part,
-            only: all_given(),
+            choice: Choice::all(alloc),
             end: EndProgress::Open,
         })
     }
@@ -194,13 +164,45 @@ impl FedJob {
         ensures given { OnOk result (GivesOnly applications.now self.old self.new) }
         ensures refused { OnErr result (IsNoApplication applications.now × (self.new ≡ self.old)) }
     {
-        self.only = only_these(applications)?;
-        Ok(())
+        self.choice.give_only(applications)
     }
 
-    /// Takes the octets that follow those that earlier calls took, record by record. It gives their events and the octets of their packets,
-    /// each in a room from its beginning on. It takes all octets, or stops before a record for whose events a room may be too small. A room of
-    /// 1,170 events and one of `max_packet` + 2,041 octets hold those of any record.
+    /// From now on gives rows of the packets of this application, in the order of the report: the event of a row comes after those of the
+    /// packet's notes. They are given whether its packets are or not. A definition takes the place of an earlier one of the application.
+    /// All memory is taken here.
+    ///
+    /// # Errors
+    ///
+    /// `NoApplication` where the number is over 2047, `NoMemory` where memory runs out. Then the job is as it was.
+    pub fn give_rows(&mut self, application: u16, definition: Definition) -> Result<(), RowsFault>
+        ensures given { OnOk result (GivesRows application definition self.old self.new) }
+        ensures refused { OnErr result (self.new ≡ self.old) }
+        ensures number { IfErr result (λ fault. fault ≡ RowsFault.NoApplication → 2047 < application) }
+    {
+        self.choice.give_rows(application, definition)
+    }
+
+    /// How many octets the rows of an application have, 0 without a definition.
+    pub fn row_length(&self, application: u16) -> u32
+        ensures { result ≡ row_length_of self.now.chosen application }
+    {
+        self.choice.row_length(application)
+    }
+
+    /// How many events, and how many octets of packets and rows, a record gives at most.
+    pub fn most(&self) -> (usize, usize)
+        ensures { result ≡ (all_events_most self.now.chosen.longest, octets_most self.now.work.rules.max_packet self.now.chosen.longest) }
+    {
+        let longest = self.choice.longest();
+        (
+            all_events_most(longest),
+            octets_most(self.reassembly.max_packet(), longest),
+        )
+    }
+
+    /// Takes the octets that follow those that earlier calls took, record by record. It gives their events, and the octets of their packets and
+    /// rows, each in a room from its beginning on. It takes all octets, or stops before a record for whose events a room may be too small.
+    /// Rooms as large as `most` says hold those of any record: without rows these are 1,170 events and `max_packet` + 2,041 octets.
     pub fn feed(&mut self, octets: &[u8], events: &mut [Event], packets: &mut [u8]) -> Fed
         ensures fed { self.old.end ≡ EndProgress.Open
             → IsFed self.old self.new (take result.used octets.now) result events.new packets.new }
@@ -217,7 +219,7 @@ impl FedJob {
         };
         let mut sink = EventSink {
             tracker: &mut self.tracker,
-            only: &self.only,
+            choice: &mut self.choice,
             events,
             filled: 0,
             octets: packets,
@@ -246,7 +248,8 @@ impl FedJob {
             EndProgress::Open => {
                 let rest = self.part.len();
                 let tracker = &mut self.tracker;
-                let given = give_closing(&self.reassembly, tracker, &self.only, rest, events);
+                let choice = &mut self.choice;
+                let given = give_closing(&self.reassembly, tracker, choice, rest, events);
                 (given, 0)
             }
         };

@@ -12,8 +12,8 @@ ghost use Rattle.tm_feed.specs.Calls.{IsSound, after_calls, events_of_calls, oct
 ghost use Rattle.tm_feed.specs.EventLines.{event_line, packet_lines, report_lines};
 ghost use Rattle.tm_feed.specs.Events.{note_event};
 ghost use Rattle.tm_feed.specs.Feeding.{events_of};
-ghost use Rattle.tm_feed.specs.Jobs.{all_given, fed, fed_events, fed_octets};
-ghost use Rattle.tm_feed.specs.States.{FeedState};
+ghost use Rattle.tm_feed.specs.Jobs.{all_given, fed, fed_events, fed_octets, without_rows};
+ghost use Rattle.tm_feed.specs.States.{Chosen, FeedState};
 
 /// Calls: a job is fed with octets in any pieces, one call after the other. It is left as by one call that takes all of them. The events of all
 /// calls, one after the other, and the octets of their packets are those of that call.
@@ -31,11 +31,11 @@ pub fn calls()
 /// order, and the others are the report of `tmx extract`.
 #[tactic(auto, using(crate::proofs::LineLemmas::lines_said))]
 pub fn lines()
-    ensures packets { (at : ℕ) (entries : Entries) (items : List Item) →
-        packet_lines (events_of all_given at entries items)
+    ensures packets { (chosen : Chosen) → chosen.only ≡ all_given → (at : ℕ) (entries : Entries) (items : List Item) →
+        packet_lines (events_of chosen at entries items)
         ≡ flat_map (λ piece. piece.out) (pieces_of (text_of Packets) entries items) }
     ensures report { (only : List Bool) (at : ℕ) (entries : Entries) (items : List Item) →
-        report_lines (events_of only at entries items)
+        report_lines (events_of (without_rows only) at entries items)
         ≡ flat_map (λ piece. piece.report) (pieces_of (text_of Extract) entries items) }
 
     // So do those of the groups that are open at the end.

@@ -4,13 +4,14 @@ ghost use Rattle.std.specs.Prelude.{◌≡◌};
 ghost use Rattle.tm_feed.specs.EventLines.{event_line, note_told, nth_of, packet_told};
 
 use crate::event::{
-    BAD, BROKEN, DROP, Event, GAP, GROUP, MASTER_GAP, PACKET, SEQUENCE_GAP, SHORT, STRAY, VCA,
+    BAD, BROKEN, DROP, Event, GAP, GROUP, MASTER_GAP, PACKET, SEQUENCE_GAP, SHORT, SHORT_PACKET,
+    STRAY, VCA,
 };
 use tm_frame::FrameFault;
 use tm_items::Reason;
 use tm_lines::{
     DroppedPart, LineBuffer, PacketPlace, format_bad, format_drop, format_gap, format_master_gap,
-    format_note, format_packet_at, format_short, format_vca,
+    format_note, format_packet_at, format_short, format_short_packet_at, format_vca,
 };
 use tm_packet::{Flags, Header, Note, Why};
 
@@ -34,6 +35,23 @@ fn nth_of<T: Copy>(all: &[T], number: u8) -> Option<T>
     }
 }
 
+// Where a packet is.
+fn place_of(event: &Event) -> PacketPlace
+    ensures { result ≡ record {
+      seen = event.now.seen;
+      channel = event.now.channel;
+      first = event.now.from;
+      place = event.now.place;
+    } }
+{
+    PacketPlace {
+        seen: event.seen,
+        channel: event.channel,
+        first: event.from,
+        place: event.place,
+    }
+}
+
 fn packet_told(event: &Event) -> Option<LineBuffer>
     ensures { result ≡ packet_told event.now }
 {
@@ -46,14 +64,8 @@ fn packet_told(event: &Event) -> Option<LineBuffer>
         event.count,
         0,
     )?;
-    let place = PacketPlace {
-        seen: event.seen,
-        channel: event.channel,
-        first: event.from,
-        place: event.place,
-    };
     let mut line = LineBuffer::new();
-    format_packet_at(&mut line, place, &header, event.octets as usize);
+    format_packet_at(&mut line, place_of(event), &header, event.octets as usize);
     Some(line)
 }
 
@@ -120,6 +132,10 @@ pub fn event_line(event: &Event) -> Option<LineBuffer>
             format_drop(&mut line, event.seen, event.channel, part);
         }
         SHORT => format_short(&mut line, event.seen, event.octets as usize),
+        SHORT_PACKET => {
+            let found = 8 * u64::from(event.octets);
+            format_short_packet_at(&mut line, place_of(event), event.at, found);
+        }
         _ => {
             let note = note_told(event)?;
             format_note(

@@ -2,7 +2,9 @@
 
 ghost use Rattle.std.specs.Prelude.{◌≤◌, length};
 
-use crate::event::{Event, note_event, other_event, packet_event};
+use crate::choice::{Choice, Made};
+use crate::event::{Event, note_event, other_event, packet_event, row_event, short_packet_event};
+use tm_fields::Lead;
 use tm_items::{Item, Sink};
 use tm_lines::Packet;
 use tm_output::header_in;
@@ -17,8 +19,8 @@ pub(crate) struct RoomFull;
 pub(crate) struct EventSink<'a> {
     /// The sequence counts.
     pub tracker: &'a mut Tracker,
-    /// For each application whether its packets are given.
-    pub only: &'a [bool],
+    /// Which packets are given, and of which rows.
+    pub choice: &'a mut Choice,
     /// The room of events, and how many stand in it.
     pub events: &'a mut [Event],
     pub filled: usize,
@@ -35,7 +37,7 @@ impl EventSink<'_> {
     ghost use Rattle.tm_items.specs.Sinks.{item_of};
     ghost use Rattle.tm_output.specs.Packets.{HasHeader, item_with};
     ghost use Rattle.tm_output.specs.Pieces.{HasLine, noted};
-    ghost use Rattle.tm_feed.specs.Feeding.{item_octets, noted_events, packet_events};
+    ghost use Rattle.tm_feed.specs.Feeding.{noted_events, packet_events, packet_octets, row_events, row_given};
     ghost use Rattle.tm_feed.specs.code.Sinking.{Lacks, AddsEvents, RefusesEvents, TakesAsEvents, note_events, sink_state};
 
     // Puts an event after the others.
@@ -94,13 +96,13 @@ impl EventSink<'_> {
         requires header { HasHeader packet.now }
         requires whole { IsOnePacket packet.now.octets.now }
         ensures put { OnOk result (AddsEvents (sink_state self.old) (sink_state self.new) self.old.tracker.now
-            (packet_events self.old.only.now (length (sink_state self.old).octets) (item_with packet.now))
-            (item_octets self.old.only.now (item_with packet.now))) }
+            (packet_events self.old.choice.now.chosen (length (sink_state self.old).octets) (item_with packet.now))
+            (packet_octets self.old.choice.now.chosen (item_with packet.now))) }
         ensures full { OnErr result (Lacks (sink_state self.old)
-            (packet_events self.old.only.now (length (sink_state self.old).octets) (item_with packet.now))
-            (item_octets self.old.only.now (item_with packet.now))) }
+            (packet_events self.old.choice.now.chosen (length (sink_state self.old).octets) (item_with packet.now))
+            (packet_octets self.old.choice.now.chosen (item_with packet.now))) }
     {
-        if !gives(self.only, packet.header.application()) {
+        if !self.choice.gives(packet.header.application()) {
             return Ok(());
         }
         self.push(packet_event(self.used as u64, packet))?;
@@ -128,6 +130,44 @@ impl EventSink<'_> {
         self.push_notes(packet.seen, packet.channel, application, &notes)
     }
 
+    // Puts the octets of the row that was made last after the others.
+    fn push_row_octets(&mut self) -> Result<(), RoomFull>
+        ensures put { OnOk result (AddsEvents (sink_state self.old) (sink_state self.new) self.old.tracker.now [] self.old.choice.now.row) }
+        ensures full { OnErr result (Lacks (sink_state self.old) [] self.old.choice.now.row) }
+    {
+        let row = self.choice.row();
+        if self.octets.len() - self.used < row.len() {
+            return Err(RoomFull);
+        }
+        self.octets[self.used..self.used + row.len()].copy_from_slice(row);
+        self.used += row.len();
+        Ok(())
+    }
+
+    // Puts the row of a packet after the others, or says that the packet is too short, if its application has a definition.
+    #[inline(never)]
+    fn push_row(&mut self, packet: &Packet<'_>) -> Result<(), RoomFull>
+        requires header { HasHeader packet.now }
+        requires whole { IsOnePacket packet.now.octets.now }
+        ensures put { OnOk result (AddsEvents (sink_state self.old) (sink_state self.new) self.old.tracker.now
+            (row_events self.old.choice.now.chosen (length (sink_state self.old).octets) (item_with packet.now))
+            (row_given self.old.choice.now.chosen (item_with packet.now))) }
+        ensures full { OnErr result (Lacks (sink_state self.old)
+            (row_events self.old.choice.now.chosen (length (sink_state self.old).octets) (item_with packet.now))
+            (row_given self.old.choice.now.chosen (item_with packet.now))) }
+    {
+        let lead = lead_of(packet);
+        match self.choice.make_row(lead, packet.octets) {
+            Made::Nothing => Ok(()),
+            Made::Row(octets) => {
+                let at = self.used as u64;
+                self.push_row_octets()?;
+                self.push(row_event(at, lead, octets))
+            }
+            Made::Short(needed) => self.push(short_packet_event(packet, needed)),
+        }
+    }
+
     // Takes a packet.
     #[inline(always)]
     #[tactic(auto, using(crate::proofs::SinkLemmas::one_packet))]
@@ -142,7 +182,10 @@ impl EventSink<'_> {
         if let Err(full) = self.push_packet(packet) {
             return Err(full);
         }
-        self.note_packet(packet)
+        if let Err(full) = self.note_packet(packet) {
+            return Err(full);
+        }
+        self.push_row(packet)
     }
 
     // Takes an item that is no packet.
@@ -161,15 +204,19 @@ impl EventSink<'_> {
 }
 
 ghost use Rattle.std.specs.Prelude.{◌≡◌};
-ghost use Rattle.tm_feed.specs.Feeding.{gives};
+ghost use Rattle.tm_output.specs.FieldRows.{lead_of};
+ghost use Rattle.tm_output.specs.Packets.{HasHeader};
 
-// The packets of the application are given.
-fn gives(only: &[bool], application: u16) -> bool
-    ensures { result ≡ gives only.now application }
+// What the row of a packet begins with.
+fn lead_of(packet: &Packet<'_>) -> Lead
+    requires { HasHeader packet.now }
+    ensures { result ≡ lead_of packet.now.seen packet.now.channel packet.now.octets.now }
 {
-    match only.get(usize::from(application)) {
-        Some(given) => *given,
-        None => false,
+    Lead {
+        seen: packet.seen,
+        channel: packet.channel,
+        application: packet.header.application(),
+        count: packet.header.count(),
     }
 }
 

@@ -4,8 +4,7 @@ ghost use Rattle.std.specs.Prelude.{◌≡◌, ◌≢◌, ◌<◌, ◌≤◌, �
 ghost use Rattle.tm_frame.specs.Layout.{most_records, record_length_of};
 ghost use Rattle.tm_checkpoint.specs.Works.{IsGoing};
 ghost use Rattle.tm_reassembly.specs.Steps.{step_items, stepped};
-ghost use Rattle.tm_frame.specs.Rules.{IsLimit};
-ghost use Rattle.tm_feed.specs.Jobs.{IsFull};
+ghost use Rattle.tm_feed.specs.Jobs.{IsFull, all_events_most, octets_most};
 ghost use Rattle.tm_feed.specs.code.Sinking.{after_items, sink_state};
 ghost use Rattle.tm_feed.specs.code.Taking.{HasAdded, HasRoom, StopsAdding};
 
@@ -13,20 +12,42 @@ use crate::job::StopReason;
 use crate::sink::EventSink;
 use tm_reassembly::Reassembly;
 
-// The most events that a record gives, and the most octets of packets beside the longest packet.
+/// The most events that a record gives without rows.
 pub(crate) const EVENTS_MOST: usize = 1170;
 
+// The most octets of packets beside the longest packet, and the most packets.
 const FIELD_MOST: usize = 2041;
+
+const PACKETS_MOST: usize = 292;
+
+/// The most events that a record gives, where the longest row has so many octets.
+pub(crate) fn all_events_most(longest: u32) -> usize
+    ensures { result ≡ all_events_most longest }
+{
+    if longest == 0 {
+        EVENTS_MOST
+    } else {
+        EVENTS_MOST + PACKETS_MOST
+    }
+}
+
+/// The most octets of packets and rows that a record gives, where a packet has at most `limit`, and a row at most `longest`.
+pub(crate) fn octets_most(limit: u32, longest: u32) -> usize
+    ensures { result ≡ octets_most limit longest }
+{
+    limit as usize + FIELD_MOST + PACKETS_MOST * longest as usize
+}
 
 // A room is too small for what a record may give.
 fn is_full(limit: u32, sink: &EventSink<'_>) -> bool
-    requires { IsLimit limit }
     ensures full { result ≡ true
-        → IsFull limit (length sink.now.events.now) sink.now.filled (length sink.now.octets.now) sink.now.used }
+        → IsFull limit sink.now.choice.now.chosen.longest (length sink.now.events.now) sink.now.filled
+        (length sink.now.octets.now) sink.now.used }
     ensures room { result ≡ false → HasRoom limit (sink_state sink.now) }
 {
-    sink.events.len() - sink.filled < EVENTS_MOST
-        || sink.octets.len() - sink.used < limit as usize + FIELD_MOST
+    let longest = sink.choice.longest();
+    sink.events.len() - sink.filled < all_events_most(longest)
+        || sink.octets.len() - sink.used < octets_most(limit, longest)
 }
 
 // Takes the octets of a record, for whose events there is room.

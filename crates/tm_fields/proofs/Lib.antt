@@ -11,4 +11,5 @@ pub mod Places
 pub mod PlainLemmas
 pub mod Records
 pub mod RowLemmas
+pub mod RowLengths
 pub mod Trim

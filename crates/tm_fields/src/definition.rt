@@ -8,7 +8,7 @@ ghost use Rattle.tm_fields.specs.Reading.{definition_of, fields_from, fields_in,
 ghost use Rattle.tm_fields.specs.Binary.{row_length, row_octets};
 ghost use Rattle.tm_fields.specs.Rows.{IsRow, RefusesRow, RefusesShort, bits_needed, head_of, row_of};
 ghost use Rattle.tm_fields.specs.declared.field.Field.{Field};
-ghost use Rattle.tm_fields.specs.declared.rows.RowForm.TheVariants.{Text};
+ghost use Rattle.tm_fields.specs.declared.rows.RowForm.TheVariants.{Text, Binary};
 
 use crate::binary::{push_value_octets, row_lead};
 use crate::cells::Cells;
@@ -212,6 +212,7 @@ impl Definition {
         requires { bits_needed self.now ≤ bits_in packet.now }
         ensures items { OnOk result (row.new.items ≡ row.old.items ++ row_octets self.now lead packet.now) }
         ensures room { OnOk result (row_length self.now ≤ vec_capacity row.new) }
+        ensures kept { vec_capacity row.old ≤ vec_capacity row.new }
         ensures enough { vec_len row.old + row_length self.now ≤ vec_capacity row.old → IsOk result }
     {
         row.reserve(self.length as usize)?;
@@ -220,6 +221,34 @@ impl Definition {
             push_value_octets(row, field, packet);
         }
         Ok(())
+    }
+
+    /// Writes the row of a packet in the binary form in place of another. Where there is memory for a row, it takes none.
+    ///
+    /// # Errors
+    ///
+    /// `ShortPacket` where the packet has fewer bits than are needed, whatever memory there is; else `NoMemory` where memory runs
+    /// out.
+    pub fn write_binary_row(
+        &self,
+        row: &mut Vec<u8>,
+        lead: Lead,
+        packet: &[u8],
+    ) -> Result<(), RowFault>
+        ensures ok { OnOk result (IsRow Binary self.now lead packet.now row.new.items) }
+        ensures refused { IfErr result (RefusesRow Binary self.now lead packet.now) }
+        ensures short { RefusesShort self.now packet.now result }
+        ensures kept { vec_capacity row.old ≤ vec_capacity row.new }
+        ensures enough { row_length self.now ≤ vec_capacity row.old → IfErr result (λ f. f ≢ RowFault.NoMemory) }
+    {
+        row.clear();
+        if let Err(fault) = self.check_length(packet) {
+            return Err(fault);
+        }
+        match self.push_binary_row(row, lead, packet) {
+            Ok(()) => Ok(()),
+            Err(_) => Err(RowFault::NoMemory),
+        }
     }
 
     /// The row of a packet, a line of comma-separated values: the lead's numbers, and the values of all fields but those of type

@@ -10,7 +10,7 @@ use Rattle.byteorder.specs.Endian.{big_bytes, little_bytes}
 use Rattle.byteorder.specs.Numbers.{length-bytes_low_first}
 use Rattle.tm_bits.specs.Bits.{part}
 use Rattle.tm_bits.proofs.PartLemmas.{part-lt}
-use Rattle.tm_fields.proofs.NumberLemmas.{octets_at_length}
+use Rattle.tm_fields.proofs.RowLengths.{length_of_value}
 use Rattle.tm_fields.specs.Binary.{extended, number_length, row_length, row_octets, typed_length, typed_octets, value_length, value_octets}
 use Rattle.tm_fields.specs.Numbers.{bits_in, octets_at}
 use Rattle.tm_fields.specs.Reading.{end_of, has_length, is_sound}
@@ -25,14 +25,6 @@ use Rattle.tm_library.proofs.OctetLemmas.{fitting, part_octets, read_back_whole,
 -- a part of so many bits is below their power
 part_small : (packet : List ℕ) (at bits : ℕ) → part packet at (at + bits) < 2 ^ bits
 part_small packet at bits = let width : at + bits - at ≡ bits = omega arith in rw width at (part-lt packet at (at + bits))
-
--- a value has as many octets as its type and its bits say
-length_of_value : (packet : List ℕ) (kind : DataType) (at bits : ℕ) → length (typed_octets packet kind at bits) ≡ typed_length kind bits
-length_of_value packet Uint at bits = length-bytes_low_first 0 (number_length bits) (part packet at (at + bits))
-length_of_value packet Int at bits = length-bytes_low_first 0 (number_length bits) _
-length_of_value packet Float at bits = length-bytes_low_first 0 (bits / 8) (part packet at (at + bits))
-length_of_value packet Str at bits = octets_at_length packet at (bits / 8)
-length_of_value packet Fill at bits = refl
 
 -- a number in as many octets as hold it
 number_back : (size bits number : ℕ) → bits ≤ 8 * size → number < 2 ^ bits → octets_number (little_bytes size number) ≡ number
@@ -81,16 +73,6 @@ columns_back packet (f ∷ more) sound inside =
     let rest : List ℕ = flat_map (value_octets packet) more in
     let size : value_length f ≡ length octets = sym (length_of_value packet f.data_type f.begin f.length) in
     rw (size, take-append_seam octets rest, drop-append_seam octets rest, column_back packet f (first_so (is_sound f) (list_all is_sound more) sound) (omega (arith, inside)), columns_back packet more (second_so (is_sound f) (list_all is_sound more) sound) (omega (arith, inside))) refl
-
--- all rows have one length
-length_of_values : (packet : List ℕ) (fields : List Field) → length (flat_map (value_octets packet) fields) ≡ sum_by value_length fields
-length_of_values packet [] = refl
-length_of_values packet (f ∷ more) =
-    length-append (value_octets packet f) (flat_map (value_octets packet) more)
-    ∙ rw (length_of_value packet f.data_type f.begin f.length, length_of_values packet more) (sym (sum_by-cons value_length f more))
-
-pub row_size : (fields : List Field) (lead : Lead) (packet : List ℕ) → length (row_octets fields lead packet) ≡ row_length fields
-row_size fields lead packet = omega (arith, length_of_values packet fields)
 
 -- so the octets of a row say the row of text
 pub row_back : (fields : List Field) (lead : Lead) (packet : List ℕ) → list_all is_sound fields ≡ true → bits_needed fields ≤ bits_in packet → IsLead lead

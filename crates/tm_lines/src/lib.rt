@@ -8,6 +8,7 @@ mod packet;
 pub use buffer::LineBuffer;
 pub use lines::{
     format_bad, format_drop, format_frame, format_gap, format_master_gap, format_note,
-    format_packet, format_packet_at, format_short, format_short_packet, format_vca,
+    format_packet, format_packet_at, format_short, format_short_packet, format_short_packet_at,
+    format_vca,
 };
 pub use packet::{DroppedPart, Packet, PacketPlace};

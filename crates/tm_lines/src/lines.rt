@@ -165,6 +165,24 @@ pub fn format_packet_at(line: &mut LineBuffer, place: PacketPlace, header: &Head
     line.prepend_beginning(place.seen, place.channel, place.first);
 }
 
+// Where a packet is.
+#[inline(always)]
+fn place_of(packet: &Packet<'_>) -> PacketPlace
+    ensures { result ≡ record {
+      seen = packet.now.seen;
+      channel = packet.now.channel;
+      first = packet.now.first;
+      place = packet.now.place;
+    } }
+{
+    PacketPlace {
+        seen: packet.seen,
+        channel: packet.channel,
+        first: packet.first,
+        place: packet.place,
+    }
+}
+
 // A packet of fewer octets is short. Where packets are short, most records have several, whose lines have the same beginning.
 const SHORT: usize = 128;
 
@@ -262,30 +280,36 @@ pub fn format_drop(line: &mut LineBuffer, seen: u32, channel: u8, part: DroppedP
     line.prepend_text(b"drop record=");
 }
 
-/// The line of a packet of too few bits for its fields.
-pub fn format_short_packet(line: &mut LineBuffer, packet: &Packet<'_>, needed: u64, found: u64)
-    ensures { line.new ≡ short_packet_line packet.now.seen packet.now.channel packet.now.first packet.now.place needed found }
+/// The line of a packet at this place that has too few bits for its fields.
+pub fn format_short_packet_at(line: &mut LineBuffer, place: PacketPlace, needed: u64, found: u64)
+    ensures { line.new ≡ short_packet_line place.seen place.channel place.first place.place needed found }
 {
-    let Packet {
+    let PacketPlace {
         seen,
         channel,
         first,
         place,
-        ..
-    } = packet;
+    } = place;
     line.start();
     line.prepend_long_number(found);
     line.prepend_text(b" found=");
     line.prepend_long_number(needed);
     line.prepend_text(b" needed=");
-    line.prepend_number(u32::from(*place));
+    line.prepend_number(u32::from(place));
     line.prepend_text(b" at=");
-    line.prepend_number(*first);
+    line.prepend_number(first);
     line.prepend_text(b" from=");
-    line.prepend_number(u32::from(*channel));
+    line.prepend_number(u32::from(channel));
     line.prepend_text(b" channel=");
-    line.prepend_number(*seen);
+    line.prepend_number(seen);
     line.prepend_text(b"shortpacket record=");
+}
+
+/// The line of a packet of too few bits for its fields.
+pub fn format_short_packet(line: &mut LineBuffer, packet: &Packet<'_>, needed: u64, found: u64)
+    ensures { line.new ≡ short_packet_line packet.now.seen packet.now.channel packet.now.first packet.now.place needed found }
+{
+    format_short_packet_at(line, place_of(packet), needed, found);
 }
 
 // ---- notes on sequence counts

@@ -1,5 +1,5 @@
 -- What a sink of events does with items.
-use Rattle.std.specs.Prelude.{◌≡◌, ◌⊎◌, ◌<◌, ℕ, ◌+◌, Bool, List, [], ◌∷◌, ◌++◌, length, map, take}
+use Rattle.std.specs.Prelude.{◌≡◌, ◌⊎◌, ◌<◌, ℕ, ◌+◌, List, [], ◌∷◌, ◌++◌, length, map, take}
 use Rattle.tm_packet.specs.Merge.{Entries}
 use Rattle.tm_packet.specs.declared.notes.Note.{Note}
 use Rattle.tm_items.specs.Item.{Item}
@@ -8,13 +8,15 @@ use Rattle.tm_feed.specs.declared.event.Event.{Event}
 use Rattle.tm_feed.specs.declared.sink.EventSink.{EventSink}
 use Rattle.tm_feed.specs.Events.{note_event}
 use Rattle.tm_feed.specs.Feeding.{events_of, item_events, item_octets, packed_octets}
+use Rattle.tm_feed.specs.States.{Chosen}
 
--- what no call changes: which references the sink holds, how large the two rooms are, and which applications are given
+-- what no call changes: which references the sink holds, how large the two rooms are, and which packets and rows are given
 pub record SinkFixture : Type 0 where
   pub tracker : ℕ
+  pub choice : ℕ
   pub events : ℕ
   pub octets : ℕ
-  pub only : List Bool
+  pub chosen : Chosen
   pub event_room : ℕ
   pub octet_room : ℕ
 
@@ -28,9 +30,10 @@ pub record SinkState : Type 0 where
 abbrev pub fixture_of : EventSink → SinkFixture
 fixture_of s = record {
   tracker = s.tracker.ghost_name;
+  choice = s.choice.ghost_name;
   events = s.events.ghost_name;
   octets = s.octets.ghost_name;
-  only = s.only.now;
+  chosen = s.choice.now.chosen;
   event_room = length s.events.now;
   octet_room = length s.octets.now;
 }
@@ -55,7 +58,7 @@ with_more s entries events octets = record {
 -- the sink after items
 abbrev pub after_items : SinkState → List Item → SinkState
 after_items s xs = with_more s (noted_all s.entries xs)
-    (events_of s.fixture.only (length s.octets) s.entries xs) (packed_octets s.fixture.only xs)
+    (events_of s.fixture.chosen (length s.octets) s.entries xs) (packed_octets s.fixture.chosen xs)
 
 -- more stands in the rooms of a sink, and its tracker has these entries
 abbrev pub AddsEvents : SinkState → SinkState → Entries → List Event → List ℕ → Type 0
@@ -76,4 +79,4 @@ Lacks s events octets =
 
 -- it refuses an item only where a room is too small
 abbrev pub RefusesEvents : {F : Type 0} → SinkState → Item → F → SinkState → Type 0
-RefusesEvents s x fault t = Lacks s (item_events s.fixture.only (length s.octets) s.entries x) (item_octets s.fixture.only x)
+RefusesEvents s x fault t = Lacks s (item_events s.fixture.chosen (length s.octets) s.entries x) (item_octets s.fixture.chosen x)

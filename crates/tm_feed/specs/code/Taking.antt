@@ -7,7 +7,8 @@ use Rattle.tm_output.specs.Records.{records, rest_of}
 use Rattle.tm_tool.specs.RecordingPieces.{items_of, worked}
 use Rattle.tm_feed.specs.declared.job.StopReason.{StopReason}
 use Rattle.tm_feed.specs.declared.job.StopReason.TheVariants.{Done, Room, TooMany, Closed}
-use Rattle.tm_feed.specs.Jobs.{IsFull, events_most, octets_most}
+use Rattle.tm_feed.specs.Jobs.{IsFull, all_events_most, octets_most}
+use Rattle.tm_feed.specs.Choosing.{FitRows}
 use Rattle.tm_feed.specs.code.Sinking.{SinkState, after_items}
 
 -- the records of octets were taken, and the octets after them are left
@@ -19,12 +20,13 @@ pub record HasAdded (p q : Progress) (s t : SinkState) (octets rest : List ℕ) 
 
 -- both rooms hold what one more record gives at most, where a packet has at most `limit` octets
 pub record HasRoom (limit : ℕ) (s : SinkState) : Type 0 where
-  pub events : length s.events + events_most ≤ s.fixture.event_room
-  pub octets : length s.octets + octets_most limit ≤ s.fixture.octet_room
+  pub events : length s.events + all_events_most s.fixture.chosen.longest ≤ s.fixture.event_room
+  pub octets : length s.octets + octets_most limit s.fixture.chosen.longest ≤ s.fixture.octet_room
+  pub rows : FitRows s.fixture.chosen
 
 -- why no further record may be taken
 abbrev pub StopsAdding : StopReason → Progress → SinkState → Type 0
 StopsAdding Done p s = ⊥
-StopsAdding Room p s = IsFull p.rules.max_packet s.fixture.event_room (length s.events) s.fixture.octet_room (length s.octets)
+StopsAdding Room p s = IsFull p.rules.max_packet s.fixture.chosen.longest s.fixture.event_room (length s.events) s.fixture.octet_room (length s.octets)
 StopsAdding TooMany p s = p.state.records ≡ most_records
 StopsAdding Closed p s = ⊥

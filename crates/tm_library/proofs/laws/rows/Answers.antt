@@ -1,4 +1,4 @@
-use Rattle.tm_library.proofs.RowLemmas.{row_size}
+use Rattle.tm_fields.proofs.RowLengths.{row_size}
 use Rattle.tm_library.proofs.laws.rows.Goals as goal
 
 pub returns-clause-length : goal.returns-clause-length

@@ -23,4 +23,5 @@ loop-field-preserved c =
           ∙ ap (λ row. before ++ row) (values_more octets (row_lead c.args.lead) c.args.self.now i field inside is);
       room = omega (arith, left, here, c.loop-field.invariant.room, c.push_value_octets.ensures.len, c.push_value_octets.ensures.room);
       kept = omega (arith, c.loop-field.invariant.kept, c.push_value_octets.ensures.room);
+      grown = omega (arith, c.loop-field.invariant.grown, c.push_value_octets.ensures.room);
     }

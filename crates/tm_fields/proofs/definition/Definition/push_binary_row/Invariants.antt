@@ -8,4 +8,5 @@ invariant-loop-field l = record {
   items : l.row.items ≡ l.fn.row.items ++ (row_lead l.fn.lead ++ flat_map (value_octets l.packet) (take l.field-index l.self));
   room : vec_len l.row + sum_by value_length (drop l.field-index l.self) ≤ vec_capacity l.row;
   kept : row_length l.self ≤ vec_capacity l.row;
+  grown : vec_capacity l.fn.row ≤ vec_capacity l.row;
 }

@@ -182,14 +182,14 @@ typedef struct tmx_job tmx_job;
 /* The most octets that a line has as a text, with the 0 behind it. Texts have no line feed. */
 enum { TMX_LINE_MOST = 320 };
 
-/* Why a job isn't opened: as the first numbers of struct tmx_answer, and the line that the program prints, with the name of the key. Only a line
+/* Why a job isn't opened, or takes no definition: as the first numbers of struct tmx_answer, and the line that the program prints, with the name of the key. Only a line
    with the name of an unknown key can be longer than its room, and is cut. If memory runs out meanwhile, the line says that. */
 struct tmx_error {
     uint32_t status; /* an enum tmx_status */
     uint32_t fault;
     uint32_t key;
-    uint32_t column; /* 0 */
-    uint32_t row;    /* 0 */
+    uint32_t column;
+    uint32_t row;
     char line[TMX_LINE_MOST];
 };
 
@@ -205,7 +205,9 @@ enum tmx_event_kind {
     TMX_EVENT_SEQUENCE_GAP = 8, /* packets of the application are missing (channel, application, expected, found, missing) */
     TMX_EVENT_BROKEN = 9,       /* a group lacks a segment: its first count and last one (channel, application, expected, found, why: an enum tmx_broken) */
     TMX_EVENT_GROUP = 10,       /* a whole group: its first count and its last (channel, application, expected, found) */
-    TMX_EVENT_STRAY = 11        /* a segment of no group (channel, application, count, flags) */
+    TMX_EVENT_STRAY = 11,       /* a segment of no group (channel, application, count, flags) */
+    TMX_EVENT_ROW = 12,         /* a row of fields, after the notes of its packet (octets, at, application, count, channel); it has no line */
+    TMX_EVENT_SHORT_PACKET = 13 /* a packet that is too short for its row (from, octets, at: the bits that are needed, place, application, count, channel) */
 };
 
 /* What is wrong with a frame. */
@@ -244,11 +246,11 @@ struct tmx_event {
     uint32_t size;        /* sizeof(struct tmx_event), 48 */
     uint32_t seen;        /* the record at which it is given */
     uint32_t from;        /* the record in which a packet or a dropped part begins */
-    uint32_t octets;      /* how many octets a packet, a dropped part or a short record has */
-    uint64_t at;          /* where the packet's octets begin in the room of octets */
+    uint32_t octets;      /* how many octets a packet, a dropped part, a short record or a row has */
+    uint64_t at;          /* where the octets of a packet or row begin in the room of octets */
     uint16_t place;       /* the place in the data field of `from` at which a packet or a dropped part begins */
     uint16_t application; /* 0 to 2047 */
-    uint16_t count;       /* the sequence count of a packet or of a stray */
+    uint16_t count;       /* the sequence count of a packet or of a stray, or of a row's packet */
     uint16_t expected;    /* the count that a gap expected; a group's first count */
     uint16_t found;       /* the count that a gap has; a group's last count */
     uint16_t missing;     /* how many counts a gap lacks */
@@ -260,15 +262,15 @@ struct tmx_event {
     uint8_t why;          /* the number of the reason */
 };
 
-/* A call of a job always goes on in a room of so many events, and of so many octets: these are the most that one record gives. Where the
-   settings have a `max_packet`, so many octets and 2041 more are enough. */
+/* A call of a job without rows always goes on in a room of so many events, and of so many octets: these are the most that one record gives.
+   Where the settings have a `max_packet`, so many octets and 2041 more are enough. tmx_job_most says it of any job. */
 enum { TMX_EVENTS_MOST = 1170, TMX_OCTETS_MOST = 67583 };
 
 /* Room for what a call gives. Each call fills both from the beginning. */
 struct tmx_room {
     struct tmx_event *events;
     size_t events_room; /* so many events */
-    uint8_t *octets;    /* the octets of packets; tmx_job_end takes none */
+    uint8_t *octets;    /* the octets of packets and rows; tmx_job_end takes none */
     size_t octets_room; /* so many octets */
 };
 
@@ -278,7 +280,7 @@ struct tmx_progress {
     uint32_t records; /* the records that are done in all */
     size_t used;      /* so many octets were taken */
     size_t events;    /* so many events were given */
-    size_t octets;    /* so many octets of packets were given */
+    size_t octets;    /* so many octets of packets and rows were given */
 };
 
 /* Opens a job at the beginning of a recording, or where a checkpoint was written, by the program or by the library. Returns the status. Only
@@ -290,6 +292,18 @@ uint32_t tmx_job_resume(tmx_job **job, const uint8_t *settings, size_t length, c
 /* From now on the job gives packets of these applications alone; with a `count` of 0 it gives none. Notes of all packets are still given. A job
    that was just opened gives the packets of all applications. With TMX_APPLICATION a number is over 2047, and the job is as it was. */
 uint32_t tmx_job_only(tmx_job *job, const uint16_t *applications, size_t count);
+
+/* From now on the job gives rows of the packets of this application, whether it gives its packets or not: `definition` is a text that defines
+   their fields, as in struct tmx_request. Several applications may have one; a second one of an application takes the place of the first. All
+   memory is taken here. A row's octets are as those of TMX_BINARY_FIELDS. With TMX_APPLICATION, TMX_LONG, TMX_DEFINITION or TMX_MEMORY the job
+   is as it was, and `*error` says why; with TMX_APPLICATION the line is empty. */
+uint32_t tmx_job_fields(tmx_job *job, uint16_t application, const uint8_t *definition, size_t length, struct tmx_error *error);
+
+/* How many octets each row of an application has: 0 without a definition, and of NULL. */
+uint32_t tmx_job_row_length(const tmx_job *job, uint16_t application);
+
+/* Writes for how many events and octets a call of tmx_job_feed needs room to go on always. Of NULL both are 0. */
+uint32_t tmx_job_most(const tmx_job *job, size_t *events, size_t *octets);
 
 /* Takes the next octets of the recording, cut anywhere: the job keeps the part of a record that isn't whole. Returns the status. With TMX_DONE
    all octets are taken. With TMX_MORE `used` of them are: read both rooms, and hand in the others again. With TMX_TOO_MANY 4294967295 records

@@ -15,6 +15,10 @@ struct opening {
 };
 uint32_t job_open(struct handle *handle, const struct opening *opening, char *line, size_t room, struct tmx_answer *answer);
 uint32_t job_only(struct handle *handle, const uint16_t *applications, size_t count);
+uint32_t job_fields(struct handle *handle, uint16_t application, const uint8_t *definition, size_t length, char *line, size_t room,
+                    struct tmx_answer *answer);
+uint32_t job_row_length(struct handle *handle, uint16_t application);
+uint32_t job_most(struct handle *handle, size_t *events, size_t *octets);
 uint32_t job_feed(struct handle *handle, const uint8_t *octets, size_t length, struct tmx_event *events, size_t events_room, uint8_t *packets,
                   size_t packets_room, struct tmx_progress *progress);
 uint32_t job_end(struct handle *handle, struct tmx_event *events, size_t events_room, struct tmx_progress *progress);
@@ -49,12 +53,16 @@ uint32_t tmx_run(const struct tmx_request *request, uint8_t *out, size_t out_roo
                             checkpoint_room, answer);
 }
 
+static uint32_t told(const struct tmx_answer *answer, struct tmx_error *error) {
+    error->status = answer->status, error->fault = answer->fault, error->key = answer->key, error->column = answer->column, error->row = answer->row;
+    return answer->status;
+}
+
 static uint32_t open_job(tmx_job **job, const struct opening *opening, struct tmx_error *error) {
     struct handle handle = {NULL};
     struct tmx_answer answer;
     if (job_open(&handle, opening, error->line, sizeof error->line, &answer) == TMX_DONE) *job = handle.at;
-    error->status = answer.status, error->fault = answer.fault, error->key = answer.key, error->column = answer.column, error->row = answer.row;
-    return answer.status;
+    return told(&answer, error);
 }
 
 uint32_t tmx_job_new(tmx_job **job, const uint8_t *settings, size_t length, struct tmx_error *error) {
@@ -67,6 +75,20 @@ uint32_t tmx_job_resume(tmx_job **job, const uint8_t *settings, size_t length, c
 
 uint32_t tmx_job_only(tmx_job *job, const uint16_t *applications, size_t count) {
     return job_only(&(struct handle){job}, SOME(applications, count), count);
+}
+
+uint32_t tmx_job_fields(tmx_job *job, uint16_t application, const uint8_t *definition, size_t length, struct tmx_error *error) {
+    struct tmx_answer answer;
+    job_fields(&(struct handle){job}, application, SOME(definition, length), length, error->line, sizeof error->line, &answer);
+    return told(&answer, error);
+}
+
+uint32_t tmx_job_row_length(const tmx_job *job, uint16_t application) {
+    return job_row_length(&(struct handle){(tmx_job *)job}, application);
+}
+
+uint32_t tmx_job_most(const tmx_job *job, size_t *events, size_t *octets) {
+    return job_most(&(struct handle){(tmx_job *)job}, events, octets);
 }
 
 uint32_t tmx_job_feed(tmx_job *job, const uint8_t *at, size_t length, struct tmx_room *to, struct tmx_progress *progress) {

@@ -26,7 +26,7 @@ macro_rules! numbers {
     };
 }
 
-numbers! { /** Why a call of a job was refused. */ Status { Settings = 3, Checkpoint = 4, TooMany = 5, Memory = 6, Application = 8, Long = 10, Closed = 12 } }
+numbers! { /** Why a call of a job was refused. */ Status { Settings = 3, Checkpoint = 4, TooMany = 5, Memory = 6, Definition = 7, Application = 8, Long = 10, Closed = 12 } }
 numbers! { /** What is wrong with a frame. */ Fault {
     Crc = 1, Version = 2, Spacecraft = 3, SecondaryFlag = 4, OcfFlag = 5, SecondaryVersion = 6, Layout = 7, Pointer = 8
 } }
@@ -34,7 +34,7 @@ numbers! { /** Why octets are dropped. */ Loss { Pointer = 1, Gap = 2, Vca = 3, 
 numbers! { /** Why a group is broken. */ Break { Gap = 1, First = 2, Unsegmented = 3, End = 4 } }
 numbers! { /** The sequence flags of a packet. */ Flags { Continuation = 0, First = 1, Last = 2, Unsegmented = 3 } }
 
-/// What an event tells. `octets` of a packet are the packet itself.
+/// What an event tells. `octets` of a packet are the packet itself, and those of a row its fields in the binary form.
 #[derive(Clone, Copy, Debug, PartialEq, Eq)]
 pub enum What<'a> {
     Packet { from: u32, place: u16, application: u16, count: u16, channel: u8, flags: Flags, telecommand: bool, secondary: bool, octets: &'a [u8] },
@@ -48,6 +48,8 @@ pub enum What<'a> {
     Broken { channel: u8, application: u16, first: u16, last: u16, why: Break },
     Group { channel: u8, application: u16, first: u16, last: u16 },
     Stray { channel: u8, application: u16, count: u16, flags: Flags },
+    Row { application: u16, count: u16, channel: u8, octets: &'a [u8] },
+    ShortPacket { from: u32, octets: u32, needed: u64, place: u16, application: u16, count: u16, channel: u8 },
     /// A kind that this file doesn't know.
     Other,
 }
@@ -146,6 +148,18 @@ impl Job {
         }
     }
 
+    /// From now on gives rows of the packets of this application, with the rooms for them. `definition` is the text that defines their fields.
+    pub fn fields(&mut self, application: u16, definition: &[u8]) -> Result<(), Error> {
+        let (mut refusal, mut events, mut octets) = (NO_REFUSAL, 0, 0);
+        match unsafe { tmx_job_fields(self.job, application, definition.as_ptr(), definition.len(), &mut refusal) } {
+            DONE => unsafe { tmx_job_most(self.job, &mut events, &mut octets) },
+            status => return Err(Error::of(status, &refusal)),
+        };
+        self.events.resize(events.max(self.events.len()), Numbers::default());
+        self.packets.resize(octets.max(self.packets.len()), 0);
+        Ok(())
+    }
+
     /// Takes the next octets of the recording, cut anywhere, from the front of `octets`: as many as the rooms hold the events of. Call it until
     /// none are left. A call that is refused takes none.
     pub fn feed(&mut self, octets: &mut &[u8]) -> Result<Events<'_>, Error> {
@@ -221,10 +235,11 @@ impl Numbers {
     fn what<'a>(&self, packets: &'a [u8]) -> What<'a> {
         let Numbers { from, octets, place, application, count, expected, found, missing, channel, .. } = *self;
         let (why, flags) = (u32::from(self.why), Flags::of(self.flags.into()));
+        let its_octets = || &packets[self.at as usize..][..octets as usize];
         match self.kind {
             1 => What::Packet {
                 from, place, application, count, channel, flags, telecommand: self.telecommand != 0, secondary: self.secondary != 0,
-                octets: &packets[self.at as usize..][..octets as usize],
+                octets: its_octets(),
             },
             2 => What::Bad { why: Fault::of(why) },
             3 => What::MasterGap { expected, found, missing },
@@ -236,6 +251,8 @@ impl Numbers {
             9 => What::Broken { channel, application, first: expected, last: found, why: Break::of(why) },
             10 => What::Group { channel, application, first: expected, last: found },
             11 => What::Stray { channel, application, count, flags },
+            12 => What::Row { application, count, channel, octets: its_octets() },
+            13 => What::ShortPacket { from, octets, needed: self.at, place, application, count, channel },
             _ => What::Other,
         }
     }
@@ -257,6 +274,8 @@ unsafe extern "C" {
     fn tmx_job_new(job: *mut *mut c_void, settings: *const u8, length: usize, error: *mut Refusal) -> u32;
     fn tmx_job_resume(job: *mut *mut c_void, settings: *const u8, length: usize, checkpoint: *const u8, length2: usize, error: *mut Refusal) -> u32;
     fn tmx_job_only(job: *mut c_void, applications: *const u16, count: usize) -> u32;
+    fn tmx_job_fields(job: *mut c_void, application: u16, definition: *const u8, length: usize, error: *mut Refusal) -> u32;
+    fn tmx_job_most(job: *const c_void, events: *mut usize, octets: *mut usize) -> u32;
     fn tmx_job_feed(job: *mut c_void, octets: *const u8, length: usize, room: *mut Room, progress: *mut Progress) -> u32;
     fn tmx_job_end(job: *mut c_void, room: *mut Room, progress: *mut Progress) -> u32;
     fn tmx_job_checkpoint(job: *const c_void, to: *mut u8, room: usize, length: *mut usize) -> u32;

@@ -1,13 +1,14 @@
 #!/usr/bin/env python3
 """The library libtmx beside the program: random recordings in random chunks give just what one run of the program gives, and each call's number
 `strict` is what its frames and its report tell. Jobs are fed in random pieces, into random rooms. Their events say the program's lines, and so
-does `tmx_event_line` of them.
+does `tmx_event_line` of them. Rows of two definitions are what `tmx fields --binary` writes of each.
 
     library.py TMX LIBRARY ROUNDS
 
 TMX is the program, LIBRARY the shared library, and ROUNDS how many random recordings are tried, each in chunks of several kinds and by each
 command. The lines are those of hostile.sh."""
 
+import collections
 import ctypes
 import pathlib
 import random
@@ -38,6 +39,8 @@ COMMANDS = {
 ROW_LENGTHS = {FIELDS: 19, BINARY_FIELDS: 19}
 QUIET = (b"vca", b"group", b"short")
 DEFINITION = b"name,data_type,bit_length\nfirst,uint,5\nsecond,int,11\n"
+# For these some packets are too short.
+LONGER = b"name,data_type,bit_length,bit_offset\nfirst,uint,40,\nsecond,str,64,52\nthird,fill,3,\nfourth,int,13,\nfifth,float,32,48\n"
 
 
 class Octets(ctypes.Structure):
@@ -169,6 +172,15 @@ def checkpoints(program, run, example):
         yield "the library's checkpoint is not the program's"
 
 
+# How many rows and short packets were compared.
+COUNTED = collections.Counter()
+
+
+def none_counted():
+    """That none were."""
+    return [] if COUNTED["rows"] and COUNTED["short"] else [f"only {dict(COUNTED)} came"]
+
+
 # ---- the job
 
 class Event(ctypes.Structure):
@@ -195,6 +207,7 @@ class Progress(ctypes.Structure):
 
 
 EVENTS_MOST, FIELD_MOST = 1170, 2041
+PACKET, ROW, SHORT_PACKET = 1, 12, 13
 FLAGS = ("continuation", "first", "last", "unsegmented")
 FAULTS = ("crc", "version", "spacecraft", "secondary-flag", "ocf-flag", "secondary-version", "layout", "pointer")
 REASONS = ("pointer", "gap", "vca", "end", "no-start", "version", "length")
@@ -211,13 +224,16 @@ LINES = {
     9: "broken record={seen} channel={channel} apid={application} first={expected} last={found} reason={end}",
     10: "group record={seen} channel={channel} apid={application} first={expected} last={found}",
     11: "stray record={seen} channel={channel} apid={application} count={count} flag={flag}",
+    13: "shortpacket record={seen} channel={channel} from={from_} at={place} needed={at} found={bits}",
 }
 
 
 def line_of(event):
-    """The program's line for an event."""
+    """The program's line for an event. A row has none."""
+    if event.kind == ROW:
+        return b"\n"
     numbers = {name: getattr(event, name) for name, _ in Event._fields_}
-    words = {"type": "tc" if event.telecommand else "tm", "has": "yes" if event.secondary else "no", "flag": FLAGS[event.flags]}
+    words = {"bits": 8 * event.octets, "type": "tc" if event.telecommand else "tm", "has": "yes" if event.secondary else "no", "flag": FLAGS[event.flags]}
     for name, list_of in (("fault", FAULTS), ("reason", REASONS), ("end", WHYS)):
         words[name] = list_of[event.why - 1] if 0 < event.why <= len(list_of) else "none"
     return LINES[event.kind].format(**numbers, **words).encode() + b"\n"
@@ -228,6 +244,7 @@ class Job:
 
     def __init__(self, library, settings, checkpoint=None):
         self.library, self.job, self.packets, self.octets, self.report = library, ctypes.c_void_p(), [], [], []
+        self.rows, self.short = {}, []
         error = (ctypes.c_uint32 * 128)()
         words = [settings, ctypes.c_size_t(len(settings))]
         if checkpoint is None:
@@ -242,16 +259,21 @@ class Job:
         events, octets, did = (Event * events_room)(), ctypes.create_string_buffer(octets_room), Progress()
         room = Room(ctypes.addressof(events), events_room, ctypes.addressof(octets), octets_room)
         status = call(self.job, *words, ctypes.byref(room), ctypes.byref(did))
-        line = ctypes.create_string_buffer(320)
+        line, all_octets = ctypes.create_string_buffer(320), b""
         for event in events[: did.events]:
             length = self.library.tmx_event_line(ctypes.byref(event), line, ctypes.c_size_t(len(line)))
             if line_of(event) != line.value + b"\n" or length != len(line.value):
                 raise ValueError(f"{line.value} of {length} octets, not {line_of(event)}")
-            (self.packets if event.kind == 1 else self.report).append(line_of(event))
-            if event.kind == 1:
-                self.octets.append(octets.raw[event.at : event.at + event.octets])
-        if b"".join(self.octets[len(self.octets) - sum(it.kind == 1 for it in events[: did.events]) :]) != octets.raw[: did.octets]:
-            raise ValueError("octets that no packet has")
+            if event.kind in (PACKET, ROW):
+                its = octets.raw[event.at : event.at + event.octets]
+                all_octets += its
+                (self.octets if event.kind == PACKET else self.rows.setdefault(event.application, [])).append(its)
+            if event.kind == SHORT_PACKET:
+                self.short.append((len(self.report), event.application))
+            if event.kind != ROW:
+                (self.packets if event.kind == PACKET else self.report).append(line_of(event))
+        if all_octets != octets.raw[: did.octets]:
+            raise ValueError("octets that no packet and no row has")
         return status, did
 
     def feed(self, octets, events_room, octets_room):
@@ -264,6 +286,24 @@ class Job:
             if status != MORE or did.used == 0:
                 raise ValueError(f"status {status}, {did.used} of {len(octets)} octets")
             octets = octets[did.used :]
+
+    def fields(self, application, definition):
+        """Gives rows from now on, as long as it is told."""
+        error = (ctypes.c_uint32 * 128)()
+        status = self.library.tmx_job_fields(self.job, ctypes.c_uint16(application), definition, ctypes.c_size_t(len(definition)), error)
+        if status != DONE:
+            raise ValueError(f"status {status} fault {error[1]}")
+
+    def most(self):
+        """The rooms that always go on."""
+        events, octets = ctypes.c_size_t(), ctypes.c_size_t()
+        self.library.tmx_job_most(self.job, ctypes.byref(events), ctypes.byref(octets))
+        return events.value, octets.value
+
+    def report_with(self, application):
+        """The report, with the lines of packets of this application alone that are too short for a row."""
+        others = {at for at, its in self.short if its != application}
+        return b"".join(line for at, line in enumerate(self.report) if at not in others)
 
     def end(self, events_room):
         """Closes the recording, in as many calls as the room asks for."""
@@ -320,6 +360,48 @@ def job_differences(program, library, seed):
         yield f"seed {seed}, a job: {[it[:80] for it in given]}, not {[it[:80] for it in one[0]]}"
 
 
+def wanted_rows(program, application, definition):
+    """The rows that the program gives of an application, and its report."""
+    pathlib.Path("definition").write_bytes(definition)
+    rows = wanted(program, BINARY_FIELDS, application)
+    pathlib.Path("definition").write_bytes(DEFINITION)
+    return rows
+
+
+def row_differences(program, library, seed):
+    """How the rows of a job with two definitions differ from those of one run for each. Now and then no packets are given beside them."""
+    chance = random.Random(seed)
+    settings = anything.make_settings(chance, ".")
+    recording = anything.make_recording(chance, seed, settings, ".")
+    given = dict(zip(chance.sample((0, 5, 100, 2046, 2047), 2), chance.sample((DEFINITION, LONGER), 2)))
+    only = chance.random() < 0.5
+    one = wanted(program, EXTRACT, 0)
+    if isinstance(one[0], str):
+        return
+    job = Job(library, pathlib.Path("settings").read_bytes())
+    # Another definition of the first one takes the place of this.
+    job.fields(next(iter(given)), LONGER)
+    for application, definition in given.items():
+        job.fields(application, definition)
+    if only:
+        library.tmx_job_only(job.job, None, ctypes.c_size_t(0))
+    at, most = 0, job.most()
+    while at < len(recording):
+        piece = recording[at : at + chance.choice([1, settings.record, 1 + chance.randrange(6 * settings.record), len(recording) // 3 + 1])]
+        job.feed(piece, *(it + chance.choice([0, 1, 5000]) for it in most))
+        at += len(piece)
+    job.end(EVENTS_MOST)
+    if b"".join(job.octets) != (b"" if only else one[0]):
+        yield f"seed {seed}: other packets"
+    for application, definition in given.items():
+        found = b"".join(job.rows.get(application, [])), job.report_with(application)
+        rows = wanted_rows(program, application, definition)
+        if found != rows:
+            yield f"seed {seed}, rows of {application}: {[it[:80] for it in found]}, not {[it[:80] for it in rows]}"
+        COUNTED.update(rows=len(job.rows.get(application, [])), short=sum(it == application for _, it in job.short))
+    job.free()
+
+
 def job_checkpoints(program, library, example):
     """How a job's checkpoint differs from the program's, and what a job gives that goes on from the program's."""
     settings, recording = (example / "settings.toml").read_bytes(), (example / "pass.rec").read_bytes()
@@ -363,11 +445,12 @@ def main(program, library, rounds):
     pathlib.Path("definition").write_bytes(DEFINITION)
     texts = [(HERE.parent / it).read_text() for it in ("include/tmx.h", "library/tmx.rs")]
     failed = 0
-    print("plan 5", flush=True)
+    print("plan 6", flush=True)
     for name, found in (
         (f"{rounds} random recordings in random chunks give what one run gives", [it for k in range(int(rounds)) for it in differences(program, run, 7000 + k)]),
         ("the library's checkpoint is the program's", [*checkpoints(program, run, HERE.parent / "example")]),
         (f"jobs over {rounds} random recordings give what one run gives", [it for k in range(int(rounds)) for it in job_differences(program, jobs, 8000 + k)]),
+        (f"rows of jobs over {rounds} random recordings are what the program gives", [it for k in range(int(rounds)) for it in row_differences(program, jobs, 9000 + k)] or none_counted()),
         ("a job's checkpoint is the program's, and goes on from it", [*job_checkpoints(program, jobs, HERE.parent / "example")]),
         ("the wrapper in Rust has the numbers of the header", [*other_numbers(*texts)]),
     ):

@@ -1,5 +1,5 @@
 //! The wrapper in Rust: chunks of several sizes give the program's lines and octets, each kind of event has the numbers of its line, a job goes
-//! on in another thread and from a checkpoint and is freed, and a refused call tells why.
+//! on in another thread and from a checkpoint and is freed, it gives rows, and a refused call tells why.
 //!
 //!     library SETTINGS RECORDING PACKETS OCTETS REPORT
 //!
@@ -110,6 +110,30 @@ fn applications(settings: &[u8], recording: &[u8], [packets, _, report]: [&[u8];
     assert!(told.packets == chosen && chosen.len() < all.len() && told.report.as_bytes() == report, "other packets or notes of chosen applications");
 }
 
+/// Rows of one application alone: each has a packet's octet behind its lead.
+fn rows(settings: &[u8], recording: &[u8], packets: &[u8]) {
+    let (mut job, mut rest, mut found) = (Job::new(settings).expect("a job"), recording, 0);
+    job.only(&[]).expect("no packets");
+    job.fields(101, b"name,data_type,bit_length\nall,str,524288\n").expect("a definition");
+    job.fields(101, b"name,data_type,bit_length\nfirst,uint,8\n").expect("another one");
+    let refused = job.fields(100, b"name,data_type\n").err().expect("a refusal");
+    assert!(refused.status == Status::Definition && refused.to_string() == "tmx: definition: column bit_length", "{refused:?}");
+    assert!(job.fields(2048, b"").err().expect("a refusal").status == Status::Application, "application 2048");
+    while !rest.is_empty() {
+        for event in job.feed(&mut rest).expect("a chunk") {
+            match event.what {
+                What::Row { application: 101, octets, .. } => {
+                    assert!(octets.len() == 17 && octets[..4] == event.seen.to_le_bytes() && event.to_string().is_empty(), "a row of {octets:?}");
+                    found += 1;
+                }
+                What::Packet { .. } | What::Row { .. } | What::ShortPacket { .. } => panic!("{:?}", event.what),
+                _ => {}
+            }
+        }
+    }
+    assert!(found != 0 && found == String::from_utf8_lossy(packets).matches(" apid=101 ").count(), "{found} rows");
+}
+
 fn refusals(settings: &[u8]) {
     for (refused, wanted) in [
         (Job::new(b"frame_length = 256\n"), (Status::Settings, 3, 1, "tmx: settings: missing spacecraft")),
@@ -135,6 +159,7 @@ fn main() {
     let [settings, recording, packets, octets, report] = &files[..] else { panic!("five files are named") };
     chunks(settings, recording, [packets, octets, report]);
     applications(settings, recording, [packets, octets, report]);
+    rows(settings, recording, packets);
     refusals(settings);
     dropped(settings);
 }

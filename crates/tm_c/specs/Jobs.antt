@@ -1,15 +1,17 @@
 -- What the exports on a job do. A handle has a job, or none.
-use Rattle.std.specs.Prelude.{◌≡◌, ◌≢◌, ◌⊎◌, ◌≤◌, ℕ, Option, Some, None, MatchOption, List, [], length, take, nat_le, if◌then◌else◌, Err}
+use Rattle.std.specs.Prelude.{◌≡◌, ◌≢◌, ◌⊎◌, ◌<◌, ◌≤◌, ℕ, Option, Some, None, MatchOption, List, [], length, take, nat_le, if◌then◌else◌, Err}
 use Rattle.tm_frame.specs.Rules.{Rules}
 use Rattle.tm_checkpoint.specs.Checkpoints.{checkpoint_of, resumed}
 use Rattle.tm_checkpoint.specs.Works.{new_job}
-use Rattle.tm_library.specs.Chunks.{AreSettings, Holds, input_limit}
-use Rattle.tm_library.specs.Refusals.{IsSettingsRefused, IsTooLong}
+use Rattle.tm_library.specs.Chunks.{AreFields, AreSettings, Holds, input_limit}
+use Rattle.tm_library.specs.Refusals.{IsDefinitionRefused, IsSettingsRefused, IsTooLong}
 use Rattle.tm_library.specs.declared.refusal.Input.TheVariants as input
 use Rattle.tm_library.specs.declared.refusal.Refusal.{Refusal}
 use Rattle.tm_library.specs.declared.refusal.Refusal.TheVariants.{TooLong, Checkpoint, NoMemory}
 use Rattle.tm_feed.specs.States.{FeedState}
-use Rattle.tm_feed.specs.Jobs.{GoesOnFrom, IsFed, IsStopped, new_feed, record_size}
+use Rattle.tm_fields.specs.declared.field.Field.{Field}
+use Rattle.tm_feed.specs.Choosing.{GivesRows, row_length_for}
+use Rattle.tm_feed.specs.Jobs.{GoesOnFrom, IsFed, IsStopped, all_events_most, new_feed, octets_most, record_size}
 use Rattle.tm_feed.specs.Endings.{EndedBy, GivesEnd}
 use Rattle.tm_feed.specs.Only.{GivesOnly, IsNoApplication}
 use Rattle.tm_feed.specs.declared.event.Event.{Event}
@@ -80,6 +82,41 @@ abbrev pub IsLimited : List ℕ → Option FeedState → Option FeedState → (s
 IsLimited applications old new status =
     MatchOption old ((new ≡ None) × (status ≡ no_job_status))
     (λ job. (after : FeedState) × (new ≡ Some after) × IsJobLimited applications job after status)
+
+-- ---- rows
+
+-- the job gives rows of the fields that a text defines
+abbrev pub TakesFields : ℕ → List ℕ → FeedState → FeedState → Type 0
+TakesFields application definition old new = (fields : List Field) × AreFields definition fields × GivesRows application fields old new
+
+-- why it gives none: there is no such application; or the definition is refused, or memory ran out
+abbrev pub IsFieldsRefused : ℕ → List ℕ → List ℕ → TmxAnswer → Type 0
+IsFieldsRefused application definition line answer =
+    ((2047 < application) × (answer ≡ refused_with (with_status 8 0)) × IsText [] line 0)
+    ⊎ ((application ≤ 2047) × ((refusal : Refusal) × IsDefinitionRefused definition refusal × IsTold refusal line answer))
+
+-- the job gives rows of the fields that a text defines; or that is refused, and the job is as it was
+abbrev pub AreJobFields : ℕ → List ℕ → List ℕ → FeedState → FeedState → TmxAnswer → Type 0
+AreJobFields application definition line old new answer =
+    (TakesFields application definition old new × (answer ≡ refused_with (with_status 0 0)) × IsText [] line 0)
+    ⊎ ((new ≡ old) × IsFieldsRefused application definition line answer)
+
+-- so does the job of the handle, if it has one
+abbrev pub AreFieldsTaken : ℕ → List ℕ → List ℕ → Option FeedState → Option FeedState → TmxAnswer → Type 0
+AreFieldsTaken application definition line old new answer =
+    MatchOption old ((new ≡ None) × (answer ≡ refused_with (with_status no_job_status 0)) × IsText [] line 0)
+    (λ job. (after : FeedState) × (new ≡ Some after) × AreJobFields application definition line job after answer)
+
+-- the octets of a row of an application: none without a definition, or without a job
+abbrev pub row_length_in : Option FeedState → ℕ → ℕ
+row_length_in None application = 0
+row_length_in (Some job) application = row_length_for job.chosen application
+
+-- how much a record gives at most
+abbrev pub AreMost : Option FeedState → (events octets status : ℕ) → Type 0
+AreMost None events octets status = (events ≡ 0) × (octets ≡ 0) × (status ≡ no_job_status)
+AreMost (Some job) events octets status =
+    (events ≡ all_events_most job.chosen.longest) × (octets ≡ octets_most job.work.rules.max_packet job.chosen.longest) × (status ≡ 0)
 
 -- ---- feeding
 

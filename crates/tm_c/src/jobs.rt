@@ -1,7 +1,11 @@
 //! The calls on a job that C keeps by a handle.
 
-ghost use Rattle.std.specs.Prelude.{◌≡◌, ◌≤◌, None, IfOk, IfErr};
-ghost use Rattle.tm_c.specs.Jobs.{IsBegun, IsBeginRefused, IsDoneWith, IsJobEnded, IsJobFed, IsJobKept, IsJobLimited, IsKept, IsLimited, IsMade, IsMakeRefused, IsOpened, IsTold, no_progress, opened_with, progress_of, record_length_in, records_of, stop_status};
+ghost use Rattle.std.specs.Prelude.{◌≡◌, ◌≤◌, [], None, IfOk, IfErr, OnOk};
+ghost use Rattle.tm_c.specs.Answers.{refused_with};
+ghost use Rattle.tm_c.specs.Numbers.{with_status};
+ghost use Rattle.tm_c.specs.Texts.{IsText};
+ghost use Rattle.tm_library.specs.Refusals.{IsDefinitionRefused};
+ghost use Rattle.tm_c.specs.Jobs.{AreFieldsTaken, AreJobFields, AreMost, TakesFields, row_length_in, IsBegun, IsBeginRefused, IsDoneWith, IsJobEnded, IsJobFed, IsJobKept, IsJobLimited, IsKept, IsLimited, IsMade, IsMakeRefused, IsOpened, IsTold, no_job_status, no_progress, opened_with, progress_of, record_length_in, records_of, stop_status};
 
 use crate::export::refused_with;
 use crate::numbers::{refusal_numbers, with_status};
@@ -11,7 +15,7 @@ use std::alloc::Global;
 use std::mem::replace;
 use tm_feed::{Event, Fed, FedJob, StopReason};
 use tm_handle::Handle;
-use tm_library::{Input, Refusal, check_length, read_settings};
+use tm_library::{Input, Refusal, check_length, read_definition, read_settings};
 use tm_tool::Settings;
 
 // The status of a call without a job.
@@ -115,6 +119,122 @@ pub extern "C" fn job_only(alloc: Global, handle: &mut Handle, applications: &[u
             status
         }
         None => NO_JOB,
+    }
+}
+
+// Has a job give rows of the fields that a text defines.
+fn give_fields(
+    alloc: Global,
+    job: &mut FedJob,
+    application: u16,
+    definition: &[u8],
+) -> Result<(), Refusal>
+    ensures taken { OnOk result (TakesFields application definition.now job.old job.new) }
+    ensures refused { IfErr result (λ refusal. IsDefinitionRefused definition.now refusal × (job.new ≡ job.old)) }
+{
+    let fields = read_definition(alloc, definition)?;
+    match job.give_rows(application, fields) {
+        Ok(()) => Ok(()),
+        Err(_) => Err(Refusal::NoMemory),
+    }
+}
+
+// The same, with the reason in a line where there is one.
+fn fields_job(
+    alloc: Global,
+    job: &mut FedJob,
+    application: u16,
+    definition: &[u8],
+    line: &mut [u8],
+) -> TmxAnswer
+    ensures { AreJobFields application definition.now line.new job.old job.new result }
+{
+    if application > 2047 {
+        write_text(&[], line);
+        return refused_with(with_status(8, 0));
+    }
+    match give_fields(alloc, job, application, definition) {
+        Ok(()) => {
+            write_text(&[], line);
+            refused_with(with_status(0, 0))
+        }
+        Err(refusal) => tell(alloc, refusal, line),
+    }
+}
+
+// There is no job that could give rows.
+fn no_fields(line: &mut [u8]) -> TmxAnswer
+    ensures answer { result ≡ refused_with (with_status no_job_status 0) }
+    ensures line { IsText [] line.new 0 }
+{
+    write_text(&[], line);
+    refused_with(with_status(NO_JOB, 0))
+}
+
+/// Has the job give rows of the fields that a text defines, for the packets of an application, unless the call is refused. Then the room
+/// says why, as the program does.
+#[unsafe(no_mangle)]
+pub extern "C" fn job_fields(
+    alloc: Global,
+    handle: &mut Handle,
+    application: u16,
+    definition: &[u8],
+    line: &mut [u8],
+    answer: &mut TmxAnswer,
+) -> u32
+    ensures taken { AreFieldsTaken application definition.now line.new handle.old.job handle.new.job answer.new }
+    ensures place { handle.new.at ≡ handle.old.at }
+    ensures status { result ≡ answer.new.status }
+{
+    match replace(handle, Handle::empty(alloc)).into_loose() {
+        Some(mut loose) => {
+            *answer = fields_job(alloc, loose.as_mut(), application, definition, line);
+            *handle = Handle::of_loose(loose);
+        }
+        None => *answer = no_fields(line),
+    }
+    answer.status
+}
+
+/// How many octets the rows of an application have, 0 without a definition.
+#[unsafe(no_mangle)]
+pub extern "C" fn job_row_length(alloc: Global, handle: &mut Handle, application: u16) -> u32
+    ensures length { result ≡ row_length_in handle.old.job application }
+    ensures job { handle.new.job ≡ handle.old.job }
+    ensures place { handle.new.at ≡ handle.old.at }
+{
+    match replace(handle, Handle::empty(alloc)).into_loose() {
+        Some(mut loose) => {
+            let length = loose.as_mut().row_length(application);
+            *handle = Handle::of_loose(loose);
+            length
+        }
+        None => 0,
+    }
+}
+
+/// How much a record gives at most: rooms so large always go on.
+#[unsafe(no_mangle)]
+pub extern "C" fn job_most(
+    alloc: Global,
+    handle: &mut Handle,
+    events: &mut usize,
+    octets: &mut usize,
+) -> u32
+    ensures most { AreMost handle.old.job events.new octets.new result }
+    ensures job { handle.new.job ≡ handle.old.job }
+    ensures place { handle.new.at ≡ handle.old.at }
+{
+    match replace(handle, Handle::empty(alloc)).into_loose() {
+        Some(mut loose) => {
+            (*events, *octets) = loose.as_mut().most();
+            *handle = Handle::of_loose(loose);
+            0
+        }
+        None => {
+            (*events, *octets) = (0, 0);
+            NO_JOB
+        }
     }
 }
 

@@ -1,13 +1,12 @@
 -- Definitions by application: a further one, and what comes of a packet's row.
-use Rattle.std.proofs.Common.{◌≡◌, ℕ, zero, suc, ◌+◌, ◌<◌, ◌≤◌, ◌++◌, Option, Some, None, List, [], ◌∷◌, length, get_or, true, false, refl, sym, ap, subst, ◌∙◌, ⊎_elim, arith}
-use Rattle.std.specs.Prelude.{slice_set, replicate, max, nat_lt, if◌then◌else◌, Result, Ok, Err, IfSome}
+use Rattle.std.proofs.Common.{◌≡◌, ℕ, zero, suc, ◌<◌, ◌≤◌, ◌++◌, Option, Some, None, List, [], ◌∷◌, length, get_or, true, false, refl, ap, ◌∙◌, ⊎_elim, arith}
+use Rattle.std.specs.Prelude.{slice_set, replicate, max, nat_lt, if◌then◌else◌, Ok, Err, IfSome}
 use Rattle.std.proofs.lemmas.List.{get_or-set_same, get_or-set_other}
 use Rattle.std.proofs.lemmas.Bool.{cases_eq}
 use Rattle.tm_fields.proofs.RowLengths.{row_size}
 use Rattle.tm_fields.specs.Binary.{row_length, row_octets}
 use Rattle.tm_fields.specs.Numbers.{bits_in}
 use Rattle.tm_fields.specs.Rows.{bits_needed, row_from}
-use Rattle.tm_fields.specs.declared.faults.RowFault.{RowFault}
 use Rattle.tm_fields.specs.declared.faults.RowFault.TheVariants.{ShortPacket}
 use Rattle.tm_fields.specs.declared.field.Field.{Field}
 use Rattle.tm_fields.specs.declared.lead.Lead.{Lead}

@@ -7,3 +7,4 @@ pub mod CallLemmas
 pub mod OnlyLemmas
 pub mod ChoiceLemmas
 pub mod LineLemmas
+pub mod RowLemmas

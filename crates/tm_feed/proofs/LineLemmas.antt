@@ -27,7 +27,7 @@ use Rattle.tm_output.specs.Pieces.{Texts, item_line, listed, no_remark, noted, n
 use Rattle.tm_output.specs.declared.command.Command.TheVariants.{Extract, Packets}
 use Rattle.tm_feed.specs.EventLines.{all_flags, all_whys, event_line, nth_of, packet_lines, report_lines}
 use Rattle.tm_feed.specs.Events.{bit, item_event, note_event, reason_number, why_number}
-use Rattle.tm_feed.specs.Feeding.{events_of, gives, item_events, item_octets, made_events, noted_events, packet_events, packet_octets, packet_row, row_events}
+use Rattle.tm_feed.specs.Feeding.{events_of, gives, item_events, item_octets, made_events, noted_events, packet_events, own_octets, packet_row, row_events}
 use Rattle.tm_feed.specs.Jobs.{all_given, without_rows}
 use Rattle.tm_feed.specs.States.{Chosen}
 use Rattle.tm_fields.specs.declared.faults.RowFault.{RowFault}
@@ -140,7 +140,7 @@ module _ (chosen : Chosen) where
   module _ {A : Type 0} (text : Texts A) (remarked : (at : ℕ) (x : Item) → report_lines (row_events chosen at x) ≡ text.remark x) where
     item_reported : (at : ℕ) (entries : Entries) (x : Item) → report_lines (item_events chosen at entries x) ≡ report_of entries x ++ text.remark x
     item_reported at entries x =
-        let far : ℕ = at + length (packet_octets chosen x) in
+        let far : ℕ = at + length (own_octets chosen x) in
         flat_map-append _ (packet_events chosen at x) (noted_events entries x ++ row_events chosen far x)
         ∙ ap (λ (l : List ℕ). report_lines (packet_events chosen at x) ++ l) (flat_map-append _ (noted_events entries x) (row_events chosen far x))
         ∙ sym (append_assoc (report_lines (packet_events chosen at x)) (report_lines (noted_events entries x)) (report_lines (row_events chosen far x)))
@@ -195,7 +195,7 @@ module _ (chosen : Chosen) (all : chosen.only ≡ all_given) where
 
   item_listed : (at : ℕ) (entries : Entries) (x : Item) → packet_lines (item_events chosen at entries x) ≡ listed x
   item_listed at entries x =
-      let far : ℕ = at + length (packet_octets chosen x) in
+      let far : ℕ = at + length (own_octets chosen x) in
       flat_map-append _ (packet_events chosen at x) (noted_events entries x ++ row_events chosen far x)
       ∙ ap (λ (l : List ℕ). packet_lines (packet_events chosen at x) ++ l) (flat_map-append _ (noted_events entries x) (row_events chosen far x))
       ∙ sym (append_assoc (packet_lines (packet_events chosen at x)) (packet_lines (noted_events entries x)) (packet_lines (row_events chosen far x)))

@@ -1,6 +1,6 @@
 -- How much room the items of one record take.
 use Rattle.std.proofs.Common.{mul-add, mul-le-mul_left, ◌≡◌, ℕ, Bool, true, false, ◌+◌, ◌<◌, ◌≤◌, Option, Some, None, List, [], ◌∷◌, length, refl, sym, append-nil, length-append, arith, inl, inr, subst}
-use Rattle.std.specs.Prelude.{map, ◌*◌, ◌==◌, ◌++◌, nat_lt, if◌then◌else◌, Result, Ok, Err, IfSome}
+use Rattle.std.specs.Prelude.{◌*◌, ◌==◌, ◌++◌, nat_lt, if◌then◌else◌, Result, Ok, Err, IfSome}
 use Rattle.std.proofs.lemmas.List.Sums.{sum_by-cons}
 use Rattle.std.specs.List.{flat_map, sum_by}
 use Rattle.std.proofs.lemmas.Bool.{eqb-true}
@@ -36,7 +36,7 @@ use Rattle.tm_fields.specs.declared.field.Field.{Field}
 use Rattle.tm_fields.specs.declared.lead.Lead.{Lead}
 use Rattle.tm_output.specs.FieldRows.{lead_of}
 use Rattle.tm_feed.specs.Choosing.{FitRows}
-use Rattle.tm_feed.specs.Feeding.{events_of, fields_for, gives, item_events, item_octets, made_events, made_octets, noted_events, packed_octets, packet_events, packet_octets, packet_row, row_events, row_given, row_made}
+use Rattle.tm_feed.specs.Feeding.{events_of, fields_for, gives, item_events, item_octets, made_events, made_octets, noted_events, packed_octets, packet_events, own_octets, packet_row, row_events, row_given, row_made}
 use Rattle.tm_feed.specs.Jobs.{all_events_most, events_most, octets_most, packets_most}
 use Rattle.tm_feed.specs.States.{Chosen}
 use Rattle.tm_feed.specs.code.Sinking.{Lacks, RefusesEvents, SinkState, TakesAsEvents}
@@ -160,9 +160,9 @@ module _ (chosen : Chosen) where
   own_few at _ e = omega arith
 
   item_length : (at : ℕ) (e : Entries) (x : Item) → length (item_events chosen at e x)
-      ≡ length (packet_events chosen at x) + length (noted_events e x) + length (row_events chosen (at + length (packet_octets chosen x)) x)
+      ≡ length (packet_events chosen at x) + length (noted_events e x) + length (row_events chosen (at + length (own_octets chosen x)) x)
   item_length at e x =
-      let far : ℕ = at + length (packet_octets chosen x) in
+      let far : ℕ = at + length (own_octets chosen x) in
       omega (
         arith,
         length-append (packet_events chosen at x) (noted_events e x ++ row_events chosen far x),
@@ -185,11 +185,11 @@ module _ (chosen : Chosen) where
         length-append (item_events chosen at e x) (events_of chosen n (noted e x) xs),
         item_length at e x,
         own_few at x e,
-        rows_few (at + length (packet_octets chosen x)) x,
+        rows_few (at + length (own_octets chosen x)) x,
         all_few n (noted e x) xs,
       )
 
-  own_octets_few : (x : Item) → length (packet_octets chosen x) ≤ packet_size x
+  own_octets_few : (x : Item) → length (own_octets chosen x) ≤ packet_size x
   own_octets_few (Packet seen channel first place octets) =
       if_few (gives chosen.only (packet_header_of octets).application) _ _ (length octets) (omega arith) (omega arith)
   own_octets_few _ = omega arith
@@ -216,7 +216,7 @@ module _ (chosen : Chosen) where
           sum_by-cons packet_size x xs,
           sum_by-cons (row_size_of chosen.longest) x xs,
           length-append (item_octets chosen x) (packed_octets chosen xs),
-          length-append (packet_octets chosen x) (row_given chosen x),
+          length-append (own_octets chosen x) (row_given chosen x),
           own_octets_few x,
           row_few x,
           octets_few xs,
@@ -239,7 +239,7 @@ module _ (chosen : Chosen) where
           length-append (item_events chosen at e x) (events_of chosen n (noted e x) xs),
           item_length at e x,
           own_few at x e,
-          no_rows none (at + length (packet_octets chosen x)) x,
+          no_rows none (at + length (own_octets chosen x)) x,
           few_without none n (noted e x) xs,
         )
 

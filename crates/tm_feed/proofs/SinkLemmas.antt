@@ -14,7 +14,7 @@ use Rattle.tm_items.proofs.Headers.{header-front}
 use Rattle.tm_items.proofs.Reaching.{packet_length-long, packet_length_least}
 use Rattle.tm_feed.specs.declared.event.Event.{Event}
 use Rattle.tm_feed.specs.Events.{item_event}
-use Rattle.tm_feed.specs.Feeding.{item_events, item_octets, noted_events, packet_events, packet_octets, row_events, row_given}
+use Rattle.tm_feed.specs.Feeding.{item_events, item_octets, noted_events, packet_events, own_octets, row_events, row_given}
 use Rattle.tm_feed.specs.States.{Chosen}
 use Rattle.tm_feed.specs.code.Sinking.{Lacks, AddsEvents, RefusesEvents, SinkState, TakesAsEvents, note_events, with_more}
 
@@ -50,7 +50,7 @@ module _ (s : SinkState) (x : Item) where
   own = packet_events s.fixture.chosen (length s.octets) x
 
   abbrev its_octets : List ℕ
-  its_octets = packet_octets s.fixture.chosen x
+  its_octets = own_octets s.fixture.chosen x
 
   abbrev notes : List Event
   notes = noted_events s.entries x

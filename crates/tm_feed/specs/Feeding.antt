@@ -27,9 +27,9 @@ packet_events chosen at (Packet seen channel first place octets) =
 packet_events chosen at x = item_event 0 x ∷ []
 
 -- the octets of a packet that is given
-abbrev pub packet_octets : Chosen → Item → List ℕ
-packet_octets chosen (Packet seen channel first place octets) = if gives chosen.only (packet_header_of octets).application then octets else []
-packet_octets chosen x = []
+abbrev pub own_octets : Chosen → Item → List ℕ
+own_octets chosen (Packet seen channel first place octets) = if gives chosen.only (packet_header_of octets).application then octets else []
+own_octets chosen x = []
 
 -- the events of the notes of an item: those of a packet's sequence count
 abbrev pub noted_events : Entries → Item → List Event
@@ -79,12 +79,12 @@ row_given chosen x = []
 
 -- the octets of an item: those of a packet that is given, and then those of its row
 abbrev pub item_octets : Chosen → Item → List ℕ
-item_octets chosen x = packet_octets chosen x ++ row_given chosen x
+item_octets chosen x = own_octets chosen x ++ row_given chosen x
 
 -- the events of an item, those of its notes, and then that of its row
 abbrev pub item_events : Chosen → ℕ → Entries → Item → List Event
 item_events chosen at entries x =
-    packet_events chosen at x ++ (noted_events entries x ++ row_events chosen (at + length (packet_octets chosen x)) x)
+    packet_events chosen at x ++ (noted_events entries x ++ row_events chosen (at + length (own_octets chosen x)) x)
 
 -- the events of items, from this place of the room of octets on
 abbrev pub events_of : Chosen → ℕ → Entries → List Item → List Event

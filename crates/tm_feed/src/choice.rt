@@ -1,4 +1,4 @@
-//! Which packets a job gives, and of which it gives rows.
+//! Which packets and which rows a job gives.
 
 ghost use Rattle.std.specs.Prelude.{◌≡◌, ◌+◌, ◌-◌, ◌++◌, None, length, replicate, OnOk, OnErr};
 
@@ -75,7 +75,7 @@ fn add_places(rows: &mut Vec<Option<Definition>>, count: usize) -> Result<(), Al
     Ok(())
 }
 
-/// Which packets a job gives, and of which it gives rows.
+/// Which packets and which rows a job gives.
 #[derive(Drop)]
 pub(crate) struct Choice {
     // For each application whether its packets are given.
@@ -106,9 +106,9 @@ impl Model for Choice {
 
 impl Choice {
     ghost use Rattle.std.specs.Prelude.{◌<◌, ◌≤◌, IfErr};
-    ghost use Rattle.tm_feed.specs.Choosing.{AreRowsOf, FitRows, row_length_of};
+    ghost use Rattle.tm_feed.specs.Choosing.{AreRowsOf, FitRows, row_length_for};
     ghost use Rattle.tm_feed.specs.Feeding.{fields_for, gives};
-    ghost use Rattle.tm_feed.specs.code.Choices.{IsMade};
+    ghost use Rattle.tm_feed.specs.code.Choices.{IsRowMade};
 
     /// The packets of all applications, and no rows.
     pub(crate) fn all(alloc: Global) -> Choice
@@ -181,7 +181,7 @@ impl Choice {
 
     /// How many octets the rows of an application have, 0 without a definition.
     pub(crate) fn row_length(&self, application: u16) -> u32
-        ensures { result ≡ row_length_of self.now.chosen application }
+        ensures { result ≡ row_length_for self.now.chosen application }
     {
         match self.rows.get(usize::from(application)) {
             Some(Some(definition)) => definition.row_length(),
@@ -193,7 +193,7 @@ impl Choice {
     #[tactic(auto, using(crate::proofs::ChoiceLemmas::made_length))]
     pub(crate) fn make_row(&mut self, lead: Lead, packet: &[u8]) -> Made
         ensures same { self.new.chosen ≡ self.old.chosen }
-        ensures made { IsMade (fields_for self.old.chosen lead.application) lead packet.now result self.new.row }
+        ensures made { IsRowMade (fields_for self.old.chosen lead.application) lead packet.now result self.new.row }
     {
         let Some(Some(definition)) = self.rows.get(usize::from(lead.application)) else {
             return Made::Nothing;

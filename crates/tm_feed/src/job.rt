@@ -85,7 +85,7 @@ impl FedJob {
     ghost use Rattle.tm_checkpoint.specs.Works.{IsGoing, new_job, work_of};
     ghost use Rattle.tm_checkpoint.specs.Checkpoints.{checkpoint_of, resumed};
     ghost use Rattle.tm_feed.specs.Endings.{EndedBy, GivesEnd};
-    ghost use Rattle.tm_feed.specs.Choosing.{GivesRows, row_length_of};
+    ghost use Rattle.tm_feed.specs.Choosing.{GivesRows, row_length_for};
     ghost use Rattle.tm_feed.specs.Jobs.{IsFed, GoesOnFrom, IsStopped, all_events_most, new_feed, octets_most, record_size};
     ghost use Rattle.tm_feed.specs.Only.{GivesOnly, IsNoApplication};
 
@@ -184,7 +184,7 @@ impl FedJob {
 
     /// How many octets the rows of an application have, 0 without a definition.
     pub fn row_length(&self, application: u16) -> u32
-        ensures { result ≡ row_length_of self.now.chosen application }
+        ensures { result ≡ row_length_for self.now.chosen application }
     {
         self.choice.row_length(application)
     }

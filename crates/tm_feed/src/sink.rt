@@ -19,7 +19,7 @@ pub(crate) struct RoomFull;
 pub(crate) struct EventSink<'a> {
     /// The sequence counts.
     pub tracker: &'a mut Tracker,
-    /// Which packets are given, and of which rows.
+    /// Which packets and which rows are given.
     pub choice: &'a mut Choice,
     /// The room of events, and how many stand in it.
     pub events: &'a mut [Event],
@@ -37,7 +37,7 @@ impl EventSink<'_> {
     ghost use Rattle.tm_items.specs.Sinks.{item_of};
     ghost use Rattle.tm_output.specs.Packets.{HasHeader, item_with};
     ghost use Rattle.tm_output.specs.Pieces.{HasLine, noted};
-    ghost use Rattle.tm_feed.specs.Feeding.{noted_events, packet_events, packet_octets, row_events, row_given};
+    ghost use Rattle.tm_feed.specs.Feeding.{noted_events, packet_events, own_octets, row_events, row_given};
     ghost use Rattle.tm_feed.specs.code.Sinking.{Lacks, AddsEvents, RefusesEvents, TakesAsEvents, note_events, sink_state};
 
     // Puts an event after the others.
@@ -97,10 +97,10 @@ impl EventSink<'_> {
         requires whole { IsOnePacket packet.now.octets.now }
         ensures put { OnOk result (AddsEvents (sink_state self.old) (sink_state self.new) self.old.tracker.now
             (packet_events self.old.choice.now.chosen (length (sink_state self.old).octets) (item_with packet.now))
-            (packet_octets self.old.choice.now.chosen (item_with packet.now))) }
+            (own_octets self.old.choice.now.chosen (item_with packet.now))) }
         ensures full { OnErr result (Lacks (sink_state self.old)
             (packet_events self.old.choice.now.chosen (length (sink_state self.old).octets) (item_with packet.now))
-            (packet_octets self.old.choice.now.chosen (item_with packet.now))) }
+            (own_octets self.old.choice.now.chosen (item_with packet.now))) }
     {
         if !self.choice.gives(packet.header.application()) {
             return Ok(());

@@ -11,7 +11,7 @@ use Rattle.byteorder.specs.Numbers.{length-bytes_low_first}
 use Rattle.tm_bits.specs.Bits.{part}
 use Rattle.tm_bits.proofs.PartLemmas.{part-lt}
 use Rattle.tm_fields.proofs.RowLengths.{length_of_value}
-use Rattle.tm_fields.specs.Binary.{extended, number_length, row_length, row_octets, typed_length, typed_octets, value_length, value_octets}
+use Rattle.tm_fields.specs.Binary.{extended, number_length, row_octets, typed_octets, value_length, value_octets}
 use Rattle.tm_fields.specs.Numbers.{bits_in, octets_at}
 use Rattle.tm_fields.specs.Reading.{end_of, has_length, is_sound}
 use Rattle.tm_fields.specs.Rows.{bits_needed, printed, raw, row_of, typed_text}

@@ -15,7 +15,7 @@ pub record ChoiceState : Type 0 where
   pub row : List ℕ
 
 -- what came of a packet's row, by the fields of its application
-abbrev pub IsMade : Option (List Field) → Lead → List ℕ → Made → List ℕ → Type 0
-IsMade fields lead packet made.Nothing row = fields ≡ None
-IsMade fields lead packet (made.Row octets) row = (row_made fields lead packet ≡ Some (Ok row)) × (length row ≡ octets)
-IsMade fields lead packet (made.Short needed) row = row_made fields lead packet ≡ Some (Err (ShortPacket needed (bits_in packet)))
+abbrev pub IsRowMade : Option (List Field) → Lead → List ℕ → Made → List ℕ → Type 0
+IsRowMade fields lead packet made.Nothing row = fields ≡ None
+IsRowMade fields lead packet (made.Row octets) row = (row_made fields lead packet ≡ Some (Ok row)) × (length row ≡ octets)
+IsRowMade fields lead packet (made.Short needed) row = row_made fields lead packet ≡ Some (Err (ShortPacket needed (bits_in packet)))

@@ -1,4 +1,4 @@
-use Rattle.std.proofs.Common.{rules, ◌≡◌, ◌<◌, ◌+◌, ◌-◌, ◌++◌, ℕ, Option, None, Some, List, length, replicate, slice_set, ap, sym, ◌∙◌, arith, length-append}
+use Rattle.std.proofs.Common.{rules, ◌≡◌, ◌<◌, ◌+◌, ◌-◌, ◌++◌, ℕ, Option, None, Some, List, length, replicate, slice_set, ap, ◌∙◌, arith, length-append}
 use Rattle.std.specs.Prelude.{max}
 use Rattle.std.proofs.lemmas.List.{length-replicate}
 use Rattle.tm_fields.specs.Binary.{row_length}

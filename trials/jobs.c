@@ -1,7 +1,7 @@
 /* Jobs of libtmx in little memory, between pages that nobody may touch, in threads and on small stacks. Link it with
    -Wl,--wrap=malloc,--wrap=realloc,--wrap=free.
 
-   jobs refused SETTINGS RECORDING    each request for memory is refused in turn: of tmx_job_new, tmx_job_resume and tmx_job_checkpoint
+   jobs refused SETTINGS RECORDING    each request for memory is refused in turn: of all calls that make any
    jobs guarded SETTINGS RECORDING    all that is read and written stands directly before and behind such pages, in pieces of many lengths
    jobs threads SETTINGS RECORDING    eight threads, each with a job of its own
    jobs handed SETTINGS RECORDING     each call on a job is made by another thread: one with a stack of 3 MiB opens it, all others have 128 KiB
@@ -90,12 +90,13 @@ static void take(struct told *told, const struct tmx_room *room, const struct tm
     size_t at = 0;
     for (size_t k = 0; k < did->events; k++) {
         struct tmx_event event = room->events[k];
-        if (event.kind == TMX_EVENT_PACKET && event.at != at) wrong("the place of a packet", (long)event.at);
-        if (event.kind == TMX_EVENT_PACKET) at += event.octets;
+        const int has_octets = event.kind == TMX_EVENT_PACKET || event.kind == TMX_EVENT_ROW;
+        if (has_octets && event.at != at) wrong("the place of a packet or row", (long)event.at);
+        if (has_octets) at += event.octets;
         event.at = 0;
         add(&told->event_sum, &event, offsetof(struct tmx_event, why) + 1);
     }
-    if (at != did->octets) wrong("octets of no packet", (long)did->octets);
+    if (at != did->octets) wrong("octets of no packet and no row", (long)did->octets);
     add(&told->octet_sum, room->octets, did->octets);
     told->events += did->events;
     told->octets += did->octets;
@@ -219,6 +220,63 @@ static int keep_refused(long number, const tmx_job *job, struct octets checkpoin
     return was_made;
 }
 
+/* A definition that the example's packets of application 101 are long enough for. */
+static const char defined[] = "name,data_type,bit_length\nfirst,uint,8\n";
+enum { DEFINED = 101, ROW_LENGTH = 17 };
+
+static uint32_t define(tmx_job *job, uint16_t application, struct tmx_error *error) {
+    return tmx_job_fields(job, application, (const uint8_t *)defined, sizeof defined - 1, error);
+}
+
+/* Likewise of a definition. */
+static int fields_refused(long number) {
+    struct tmx_error error;
+    const long before = held;
+    tmx_job *job = opened(none);
+    uint32_t status;
+    int was_made;
+    requests = 0;
+    refused_one = number;
+    status = define(job, DEFINED, &error);
+    refused_one = -1;
+    was_made = requests > number;
+    if (was_made && (status != TMX_MEMORY || strcmp(error.line, "tmx: out of memory") != 0 || tmx_job_row_length(job, DEFINED) != 0))
+        wrong("a refused request for a definition", number);
+    if (!was_made && status != TMX_DONE) wrong("no request is refused: status", status);
+    if (define(job, DEFINED, &error) != TMX_DONE || tmx_job_row_length(job, DEFINED) != ROW_LENGTH) wrong("the same call afterwards", number);
+    tmx_job_free(job);
+    if (held != before) wrong("blocks are left behind", held - before);
+    return was_made;
+}
+
+/* A job gives a row for each packet, in rooms that go on always. It asks for no memory meanwhile. */
+static void rows_fed(void) {
+    struct tmx_error error;
+    struct tmx_room room;
+    struct tmx_progress did;
+    tmx_job *job = opened(none);
+    long rows = 0;
+    if (define(job, DEFINED, &error) != TMX_DONE || tmx_job_most(job, &room.events_room, &room.octets_room) != TMX_DONE) wrong(error.line, error.status);
+    room.events = malloc(room.events_room * sizeof *room.events);
+    room.octets = malloc(room.octets_room);
+    requests = 0;
+    for (size_t at = 0; at < recording.length; at += did.used) {
+        tmx_job_feed(job, recording.at + at, recording.length - at, &room, &did);
+        if (did.used == 0) wrong("rooms that go on always stop at", (long)at);
+        for (size_t k = 0; k < did.events; k++) {
+            struct tmx_event event = room.events[k];
+            if (event.application != DEFINED) continue;
+            if (event.kind == TMX_EVENT_PACKET) rows--;
+            if (event.kind == TMX_EVENT_ROW) rows += event.octets == ROW_LENGTH ? 1 : 2;
+        }
+        if (rows != 0) wrong("rows beyond those of packets", rows);
+    }
+    if (requests != 0) wrong("feed asks for memory", requests);
+    free(room.events);
+    free(room.octets);
+    tmx_job_free(job);
+}
+
 static int refused(void) {
     static struct rooms rooms;
     struct tmx_room room = room_of(&rooms);
@@ -226,22 +284,25 @@ static int refused(void) {
     struct told told = {0};
     tmx_job *job = opened(none);
     struct octets half, unknown = {(uint8_t *)"unknown = 1", 11};
-    long made[4] = {0, 0, 0, 0};
+    long made[5] = {0, 0, 0, 0, 0};
     feed(job, recording.at, recording.length / 2, &room, &did, &told);
     half = kept(job);
     while (open_refused(made[0], settings, none, TMX_DONE)) made[0]++;
     while (open_refused(made[1], settings, half, TMX_DONE)) made[1]++;
     while (open_refused(made[2], unknown, none, TMX_SETTINGS)) made[2]++;
     while (keep_refused(made[3], job, half)) made[3]++;
+    while (fields_refused(made[4])) made[4]++;
     requests = 0;
     feed(job, recording.at + recording.length / 2, recording.length - recording.length / 2, &room, &did, &told);
     end(job, &room, &did, &told);
     if (requests != 0) wrong("feed and end ask for memory", requests);
     tmx_job_free(job);
     compare("another recording is told", told);
-    for (int k = 0; k < 4; k++)
+    rows_fed();
+    for (int k = 0; k < 5; k++)
         if (made[k] == 0) wrong("no request was refused of call", k);
-    printf("%ld to open a job, %ld to resume one, %ld by an unknown key, %ld for a checkpoint\n", made[0], made[1], made[2], made[3]);
+    printf("%ld to open a job, %ld to resume one, %ld by an unknown key, %ld for a checkpoint, %ld for a definition\n", made[0], made[1], made[2], made[3],
+           made[4]);
     return 0;
 }
 
@@ -364,7 +425,7 @@ static int threads(void) {
 
 /* A call on the job that the threads hand on: each has what it reads and writes here. */
 static struct {
-    tmx_job *job;
+    tmx_job *job, *defined;
     struct octets checkpoint, piece;
     struct rooms rooms;
     struct told told;
@@ -372,6 +433,7 @@ static struct {
 
 static void *begin(void *unused) {
     handed_on.job = opened(handed_on.checkpoint);
+    handed_on.defined = opened(none);
     return unused;
 }
 
@@ -385,6 +447,13 @@ static void *go_on(void *unused) {
 static void *keep(void *unused) {
     handed_on.checkpoint = kept(handed_on.job);
     tmx_job_free(handed_on.job);
+    return unused;
+}
+
+static void *name_fields(void *unused) {
+    struct tmx_error error;
+    if (define(handed_on.defined, DEFINED, &error) != TMX_DONE) wrong(error.line, error.status);
+    tmx_job_free(handed_on.defined);
     return unused;
 }
 
@@ -428,6 +497,7 @@ static int handed(void) {
     int pieces = 0;
     for (size_t half = 1; half <= 2; half++) {
         hand(begin, OPENING);
+        hand(name_fields, OTHER);
         for (; at < recording.length / 2 * half; at += handed_on.piece.length, pieces++) {
             size_t rest = recording.length - at;
             handed_on.piece = (struct octets){recording.at + at, rest < 3 * record + 1 ? rest : 3 * record + 1};

@@ -419,6 +419,25 @@ static void answered(const char *what, uint32_t status, uint32_t wanted, struct 
     if (did.used != used || did.events != events || did.octets != 0) printf("%s: %zu octets used, %zu events, %zu octets\n", what, did.used, did.events, did.octets);
 }
 
+/* Definitions that are refused leave the rooms that are needed as they were. The example's longest packet has 880 octets. */
+static void definitions(tmx_job *job, const uint8_t *longest, size_t length) {
+    static const uint8_t wrong[] = "name,data_type,bit_length\nfirst,uint,65\n", right[] = "name,data_type,bit_length\nfirst,uint,64\n";
+    const size_t without = 880 + 2041;
+    struct tmx_error error;
+    size_t events = 1, octets = 1;
+    if (tmx_job_fields(NULL, 0, right, sizeof right - 1, &error) != TMX_JOB || error.status != TMX_JOB || *error.line != 0) puts("a definition without a job");
+    if (tmx_job_most(NULL, &events, &octets) != TMX_JOB || events + octets + tmx_job_row_length(NULL, 0) != 0) puts("rooms without a job");
+    if (tmx_job_fields(job, 2048, right, sizeof right - 1, &error) != TMX_APPLICATION || *error.line != 0) puts("application 2048");
+    if (tmx_job_fields(job, 0, NULL, 0, &error) != TMX_DEFINITION || error.fault != TMX_DEFINITION_COLUMN || error.column != TMX_COLUMN_NAME) puts("no definition");
+    if (tmx_job_fields(job, 0, wrong, sizeof wrong - 1, &error) != TMX_DEFINITION || error.fault != TMX_DEFINITION_BITS || error.row != 1
+        || strcmp(error.line, "tmx: definition: bits row 1") != 0) puts(error.line);
+    if (tmx_job_fields(job, 0, longest, length, &error) != TMX_LONG || error.fault != TMX_INPUT_DEFINITION) puts("a definition that is too long");
+    if (tmx_job_most(job, &events, &octets) != TMX_DONE || events != TMX_EVENTS_MOST || octets != without) puts("rooms without rows");
+    if (tmx_job_fields(job, 2047, right, sizeof right - 1, &error) != TMX_DONE || error.status != TMX_DONE || *error.line != 0) puts("a definition");
+    if (tmx_job_row_length(job, 2047) != 24 || tmx_job_row_length(job, 2046) + tmx_job_row_length(job, 65535) != 0) puts("the length of rows");
+    if (tmx_job_most(job, &events, &octets) != TMX_DONE || events != TMX_EVENTS_MOST + 292 || octets != without + 292 * 24) puts("rooms with rows");
+}
+
 static int jobs(struct octets settings, struct octets recording) {
     static const uint8_t wrong[40] = "no checkpoint";
     static struct tmx_event events[TMX_EVENTS_MOST];
@@ -453,6 +472,9 @@ static int jobs(struct octets settings, struct octets recording) {
     if (tmx_job_end(job, &room, &did) != TMX_DONE || did.events != 1 || events[0].kind != TMX_EVENT_SHORT || events[0].octets != record - 1) puts("the end");
     answered("the end once more", tmx_job_end(job, &none_at_all, &did), TMX_DONE, did, 0, 0);
     answered("octets after the end", tmx_job_feed(job, recording.at, record, &room, &did), TMX_CLOSED, did, 0, 0);
+    tmx_job_free(job);
+    if (tmx_job_new(&job, settings.at, settings.length, &error) != TMX_DONE) return 6;
+    definitions(job, longest, sizeof longest);
     tmx_job_free(job);
     return 0;
 }

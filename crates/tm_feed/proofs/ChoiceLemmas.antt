@@ -34,6 +34,12 @@ padded [] n k = nones n k
 padded (x ∷ xs) n zero = refl
 padded (x ∷ xs) n (suc k) = padded xs n k
 
+-- behind the last place there is none
+pub none_past : {A : Type 0} (xs : List (Option A)) (k : ℕ) → length xs ≤ k → get_or xs k None ≡ None
+none_past [] k past = refl
+none_past (x ∷ xs) zero past = absurd (omega (arith, past))
+none_past (x ∷ xs) (suc k) past = none_past xs k (omega (arith, past))
+
 -- a definition in its place
 pub placed : (old : Chosen) (rows : List (Option (List Field))) (n application : ℕ) (fields : List Field) → application < 2048
     → rows ≡ old.rows ++ replicate n None → application < length rows

@@ -105,7 +105,7 @@ impl Model for Choice {
 }
 
 impl Choice {
-    ghost use Rattle.std.specs.Prelude.{◌<◌, ◌≤◌, IfErr};
+    ghost use Rattle.std.specs.Prelude.{◌<◌, ◌≤◌, false, IfErr};
     ghost use Rattle.tm_feed.specs.Choosing.{AreRowsOf, FitRows, row_length_for};
     ghost use Rattle.tm_feed.specs.Feeding.{fields_for, gives};
     ghost use Rattle.tm_feed.specs.code.Choices.{IsRowMade};
@@ -169,6 +169,15 @@ impl Choice {
             Some(given) => *given,
             None => false,
         }
+    }
+
+    /// There may be a definition of the application.
+    #[inline(always)]
+    #[tactic(auto, using(crate::proofs::ChoiceLemmas::none_past))]
+    pub(crate) fn has_place(&self, application: u16) -> bool
+        ensures { result ≡ false → fields_for self.now.chosen application ≡ None }
+    {
+        usize::from(application) < self.rows.len()
     }
 
     /// How many octets the longest row has, 0 without definitions.

@@ -144,9 +144,10 @@ impl EventSink<'_> {
         Ok(())
     }
 
-    // Puts the row of a packet after the others, or says that the packet is too short, if its application has a definition.
+    // Puts the row of a packet after the others, or says that the packet is too short, if its application has a definition. It stands apart,
+    // since most packets have no row.
     #[inline(never)]
-    fn push_row(&mut self, packet: &Packet<'_>) -> Result<(), RoomFull>
+    fn push_made_row(&mut self, packet: &Packet<'_>) -> Result<(), RoomFull>
         requires header { HasHeader packet.now }
         requires whole { IsOnePacket packet.now.octets.now }
         ensures put { OnOk result (AddsEvents (sink_state self.old) (sink_state self.new) self.old.tracker.now
@@ -166,6 +167,31 @@ impl EventSink<'_> {
             }
             Made::Short(needed) => self.push(short_packet_event(packet, needed)),
         }
+    }
+
+    // Does so, if there may be a definition. The copy is made field by field, so without one the compiler needn't put it together.
+    #[inline(always)]
+    fn push_row(&mut self, packet: &Packet<'_>) -> Result<(), RoomFull>
+        requires header { HasHeader packet.now }
+        requires whole { IsOnePacket packet.now.octets.now }
+        ensures put { OnOk result (AddsEvents (sink_state self.old) (sink_state self.new) self.old.tracker.now
+            (row_events self.old.choice.now.chosen (length (sink_state self.old).octets) (item_with packet.now))
+            (row_given self.old.choice.now.chosen (item_with packet.now))) }
+        ensures full { OnErr result (Lacks (sink_state self.old)
+            (row_events self.old.choice.now.chosen (length (sink_state self.old).octets) (item_with packet.now))
+            (row_given self.old.choice.now.chosen (item_with packet.now))) }
+    {
+        if !self.choice.has_place(packet.header.application()) {
+            return Ok(());
+        }
+        self.push_made_row(&Packet {
+            seen: packet.seen,
+            channel: packet.channel,
+            first: packet.first,
+            place: packet.place,
+            header: packet.header,
+            octets: packet.octets,
+        })
     }
 
     // Takes a packet.

@@ -105,7 +105,7 @@ impl Model for Choice {
 }
 
 impl Choice {
-    ghost use Rattle.std.specs.Prelude.{◌<◌, ◌≤◌, false, IfErr};
+    ghost use Rattle.std.specs.Prelude.{◌<◌, ◌≤◌, false, Err, IfErr};
     ghost use Rattle.tm_feed.specs.Choosing.{AreRowsOf, FitRows, row_length_for};
     ghost use Rattle.tm_feed.specs.Feeding.{fields_for, gives};
     ghost use Rattle.tm_feed.specs.code.Choices.{IsRowMade};
@@ -142,6 +142,7 @@ impl Choice {
         ensures given { OnOk result (AreRowsOf application definition self.old.chosen self.new.chosen) }
         ensures refused { OnErr result (self.new.chosen ≡ self.old.chosen) }
         ensures number { IfErr result (λ fault. fault ≡ RowsFault.NoApplication → 2047 < application) }
+        ensures over { 2047 < application → result ≡ Err RowsFault.NoApplication }
     {
         let place = usize::from(application);
         if place > 2047 {

@@ -178,6 +178,7 @@ impl FedJob {
         ensures given { OnOk result (GivesRows application definition self.old self.new) }
         ensures refused { OnErr result (self.new ≡ self.old) }
         ensures number { IfErr result (λ fault. fault ≡ RowsFault.NoApplication → 2047 < application) }
+        ensures over { 2047 < application → result ≡ Err RowsFault.NoApplication }
     {
         self.choice.give_rows(application, definition)
     }
@@ -191,7 +192,8 @@ impl FedJob {
 
     /// How many events, and how many octets of packets and rows, a record gives at most.
     pub fn most(&self) -> (usize, usize)
-        ensures { result ≡ (all_events_most self.now.chosen.longest, octets_most self.now.work.rules.max_packet self.now.chosen.longest) }
+        ensures events { result.0 ≡ all_events_most self.now.chosen.longest }
+        ensures octets { result.1 ≡ octets_most self.now.work.rules.max_packet self.now.chosen.longest }
     {
         let longest = self.choice.longest();
         (

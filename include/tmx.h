@@ -182,8 +182,9 @@ typedef struct tmx_job tmx_job;
 /* The most octets that a line has as a text, with the 0 behind it. Texts have no line feed. */
 enum { TMX_LINE_MOST = 320 };
 
-/* Why a job isn't opened, or takes no definition: as the first numbers of struct tmx_answer, and the line that the program prints, with the name of the key. Only a line
-   with the name of an unknown key can be longer than its room, and is cut. If memory runs out meanwhile, the line says that. */
+/* Why a job isn't opened, or takes no definition: as the first numbers of struct tmx_answer, and the line that the program prints, with the name
+   of the key. Only a line with the name of an unknown key can be longer than its room, and is cut. If memory runs out meanwhile, the line says
+   that. */
 struct tmx_error {
     uint32_t status; /* an enum tmx_status */
     uint32_t fault;
@@ -247,7 +248,7 @@ struct tmx_event {
     uint32_t seen;        /* the record at which it is given */
     uint32_t from;        /* the record in which a packet or a dropped part begins */
     uint32_t octets;      /* how many octets a packet, a dropped part, a short record or a row has */
-    uint64_t at;          /* where the octets of a packet or row begin in the room of octets */
+    uint64_t at;          /* where the octets of a packet or row begin in the room of octets; the bits that a row needs */
     uint16_t place;       /* the place in the data field of `from` at which a packet or a dropped part begins */
     uint16_t application; /* 0 to 2047 */
     uint16_t count;       /* the sequence count of a packet or of a stray, or of a row's packet */
@@ -294,15 +295,15 @@ uint32_t tmx_job_resume(tmx_job **job, const uint8_t *settings, size_t length, c
 uint32_t tmx_job_only(tmx_job *job, const uint16_t *applications, size_t count);
 
 /* From now on the job gives rows of the packets of this application, whether it gives its packets or not: `definition` is a text that defines
-   their fields, as in struct tmx_request. Several applications may have one; a second one of an application takes the place of the first. All
-   memory is taken here. A row's octets are as those of TMX_BINARY_FIELDS. With TMX_APPLICATION, TMX_LONG, TMX_DEFINITION or TMX_MEMORY the job
-   is as it was, and `*error` says why; with TMX_APPLICATION the line is empty. */
+   their fields, as in struct tmx_request. Several applications may have one; a second one of an application takes the place of the first. A
+   checkpoint has none. A row's octets are as those of TMX_BINARY_FIELDS. All memory is taken here. Returns the status. With TMX_APPLICATION,
+   TMX_LONG, TMX_DEFINITION or TMX_MEMORY the job is as it was, and `*error` says why; with TMX_APPLICATION the line is empty. */
 uint32_t tmx_job_fields(tmx_job *job, uint16_t application, const uint8_t *definition, size_t length, struct tmx_error *error);
 
 /* How many octets each row of an application has: 0 without a definition, and of NULL. */
 uint32_t tmx_job_row_length(const tmx_job *job, uint16_t application);
 
-/* Writes for how many events and octets a call of tmx_job_feed needs room to go on always. Of NULL both are 0. */
+/* Writes for how many events and octets a call of tmx_job_feed needs room to go on always, and returns the status. Of NULL both are 0. */
 uint32_t tmx_job_most(const tmx_job *job, size_t *events, size_t *octets);
 
 /* Takes the next octets of the recording, cut anywhere: the job keeps the part of a record that isn't whole. Returns the status. With TMX_DONE

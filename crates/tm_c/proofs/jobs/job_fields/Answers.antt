@@ -1,4 +1,4 @@
-use Rattle.std.proofs.Common.{◌≡◌, None, Some, refl, sym, ap, ◌∙◌}
+use Rattle.std.proofs.Common.{sym, ap, ◌∙◌}
 use Rattle.tm_handle.specs.declared.handle.Handle.{Handle}
 use Rattle.tm_c.proofs.jobs.job_fields.Goals as goal
 use Rattle.tm_c.proofs.jobs.job_fields.Goals.{in-Some, in-None}

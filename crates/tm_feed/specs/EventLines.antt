@@ -52,7 +52,7 @@ note_told e =
     else if e.kind == 11 then option_map (note.Stray e.count) (slice_get all_flags e.flags)
     else None
 
--- the line; none where the kind or another number is none that an event has
+-- the line; none of a row, nor where the kind, a number that the line has as a word, or a part of a packet's header is out of range
 abbrev pub event_line : Event → Option (List ℕ)
 event_line e =
     if e.kind == 1 then packet_told e

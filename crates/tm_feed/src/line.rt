@@ -25,7 +25,7 @@ const ALL_FLAGS: [Flags; 4] = [
 
 const ALL_WHYS: [Why; 4] = [Why::Gap, Why::First, Why::Unsegmented, Why::Close];
 
-// What has this number in a list that is nth_of from 1.
+// What has this number in a list that is numbered from 1.
 fn nth_of<T: Copy>(all: &[T], number: u8) -> Option<T>
     ensures { result ≡ nth_of all.now number }
 {
@@ -94,8 +94,8 @@ fn note_told(event: &Event) -> Option<Note>
     }
 }
 
-/// The line of an event, as the program prints it in the list of packets or in the report: `None` where the kind is none, or a number is none
-/// that an event of the kind has.
+/// The line of an event, as the program prints it in the list of packets or in the report. `None` for a row, and where the kind, a number that
+/// the line has as a word, or a part of a packet's header is out of range.
 pub fn event_line(event: &Event) -> Option<LineBuffer>
     ensures { result ≡ event_line event.now }
 {

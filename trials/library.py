@@ -403,23 +403,29 @@ def row_differences(program, library, seed):
 
 
 def job_checkpoints(program, library, example):
-    """How a job's checkpoint differs from the program's, and what a job gives that goes on from the program's."""
-    settings, recording = (example / "settings.toml").read_bytes(), (example / "pass.rec").read_bytes()
-    words = [program, "packets", "--settings", str(example / "settings.toml"), "--report", "report"]
-    subprocess.run([*words, "--checkpoint", "checkpoint", "--stop-after", "100", str(example / "pass.rec")], stdout=subprocess.DEVNULL, check=True)
-    kept, size = pathlib.Path("checkpoint").read_bytes(), len(recording) // 300
+    """How a job's checkpoint differs from the program's, and what a job gives that goes on from one, of each version."""
+    # Version 1 has no limit on packets.
+    settings = re.sub(rb"(?m)^max_packet.*\n", b"", (example / "settings.toml").read_bytes())
+    pathlib.Path("without_limit.toml").write_bytes(settings)
+    recording = (example / "pass.rec").read_bytes()
+    words = [program, "packets", "--settings", "without_limit.toml", str(example / "pass.rec")]
+    subprocess.run([*words, "--checkpoint", "checkpoint", "--stop-after", "100"], capture_output=True, check=True)
+    kept, size = pathlib.Path("checkpoint"), len(recording) // 300
     job = Job(library, settings)
     job.feed(recording[: 100 * size + 7], EVENTS_MOST, 100000)
-    if job.checkpoint() != kept:
+    if job.checkpoint() != kept.read_bytes():
         yield "a job's checkpoint is not the program's"
     job.free()
-    rest = subprocess.run([*words[:-2], "--resume", "checkpoint", str(example / "pass.rec")], capture_output=True, check=True)
-    job = Job(library, settings, kept)
-    job.feed(recording[100 * size :], EVENTS_MOST, 100000)
-    job.end(EVENTS_MOST)
-    if (job.given()[0], job.given()[2]) != (rest.stdout, rest.stderr):
-        yield "a job doesn't go on from the program's checkpoint as the program does"
-    job.free()
+    for version in (1, 2, 3):
+        keep = [sys.executable, HERE / "reference.py", "keep", "without_limit.toml", example / "pass.rec", "100", str(version)]
+        kept.write_bytes(subprocess.run(keep, stdout=subprocess.PIPE, check=True).stdout)
+        rest = subprocess.run([*words, "--resume", "checkpoint"], capture_output=True, check=True)
+        job = Job(library, settings, kept.read_bytes())
+        job.feed(recording[100 * size :], EVENTS_MOST, 100000)
+        job.end(EVENTS_MOST)
+        if (job.given()[0], job.given()[2]) != (rest.stdout, rest.stderr):
+            yield f"a job doesn't go on from a checkpoint of version {version} as the program does"
+        job.free()
 
 
 # ---- the wrapper in Rust
@@ -444,16 +450,22 @@ def main(program, library, rounds):
     jobs.tmx_job_records.restype = ctypes.c_uint32
     pathlib.Path("definition").write_bytes(DEFINITION)
     texts = [(HERE.parent / it).read_text() for it in ("include/tmx.h", "library/tmx.rs")]
+    example, rounds = HERE.parent / "example", range(int(rounds))
+    many = f"{len(rounds)} random recordings"
     failed = 0
     print("plan 6", flush=True)
-    for name, found in (
-        (f"{rounds} random recordings in random chunks give what one run gives", [it for k in range(int(rounds)) for it in differences(program, run, 7000 + k)]),
-        ("the library's checkpoint is the program's", [*checkpoints(program, run, HERE.parent / "example")]),
-        (f"jobs over {rounds} random recordings give what one run gives", [it for k in range(int(rounds)) for it in job_differences(program, jobs, 8000 + k)]),
-        (f"rows of jobs over {rounds} random recordings are what the program gives", [it for k in range(int(rounds)) for it in row_differences(program, jobs, 9000 + k)] or none_counted()),
-        ("a job's checkpoint is the program's, and goes on from it", [*job_checkpoints(program, jobs, HERE.parent / "example")]),
-        ("the wrapper in Rust has the numbers of the header", [*other_numbers(*texts)]),
+    for name, find in (
+        (f"{many} in random chunks give what one run gives", lambda: (it for k in rounds for it in differences(program, run, 7000 + k))),
+        ("the library's checkpoint is the program's", lambda: checkpoints(program, run, example)),
+        (f"jobs over {many} give what one run gives", lambda: (it for k in rounds for it in job_differences(program, jobs, 8000 + k))),
+        (f"rows of jobs over {many} are what the program gives", lambda: [it for k in rounds for it in row_differences(program, jobs, 9000 + k)] or none_counted()),
+        ("a job's checkpoint is the program's, and a job goes on from one of each version", lambda: job_checkpoints(program, jobs, example)),
+        ("the wrapper in Rust has the numbers of the header", lambda: other_numbers(*texts)),
     ):
+        try:
+            found = list(find())
+        except (ValueError, OSError, subprocess.SubprocessError) as error:
+            found = [f"{type(error).__name__}: {error}"]
         print(f"FAILED: {name}: {found[:3]}" if found else f"ok {name}", flush=True)
         failed += bool(found)
     return failed != 0

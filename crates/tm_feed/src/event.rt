@@ -302,7 +302,8 @@ pub(crate) fn row_event(at: u64, lead: Lead, octets: u32) -> Event
 pub(crate) fn short_packet_event(packet: &Packet<'_>, needed: u32) -> Event
     requires header { HasHeader packet.now }
     requires whole { IsOnePacket packet.now.octets.now }
-    ensures { result ≡ short_packet_event packet.now.first packet.now.place (lead_of packet.now.seen packet.now.channel packet.now.octets.now)
+    ensures { result ≡ short_packet_event packet.now.first packet.now.place
+        (lead_of packet.now.seen packet.now.channel packet.now.octets.now)
         needed (length packet.now.octets.now) }
 {
     let header = packet.header;

@@ -132,7 +132,8 @@ impl EventSink<'_> {
 
     // Puts the octets of the row that was made last after the others.
     fn push_row_octets(&mut self) -> Result<(), RoomFull>
-        ensures put { OnOk result (AddsEvents (sink_state self.old) (sink_state self.new) self.old.tracker.now [] self.old.choice.now.row) }
+        ensures put { OnOk result (AddsEvents (sink_state self.old) (sink_state self.new) self.old.tracker.now []
+            self.old.choice.now.row) }
         ensures full { OnErr result (Lacks (sink_state self.old) [] self.old.choice.now.row) }
     {
         let row = self.choice.row();

@@ -112,7 +112,8 @@ impl Tracker {
     #[tactic(auto, using(crate::proofs::Merging::one_header))]
     pub fn add_without_notes(&mut self, channel: u8, header: &Header) -> bool
         requires { channel < 8 }
-        ensures none { Decides result (sequence.notes self.old (record { channel = channel; header = header.now } ∷ []) ≡ [] ∷ []) }
+        ensures none { Decides result
+            (sequence.notes self.old (record { channel = channel; header = header.now } ∷ []) ≡ [] ∷ []) }
         ensures recorded { result ≡ true → self.new
             ≡ sequence.entries_after self.old (record { channel = channel; header = header.now } ∷ []) }
         ensures left { result ≡ false → self.new ≡ self.old }

@@ -38,8 +38,18 @@ digits_plain (c ∷ digits) all = rw (digit_plain c all.0, digits_plain digits a
 decimal_plain : (n : ℕ) → n < 2 ^ 64 → list_any is_set_apart (decimal n) ≡ false
 decimal_plain n small = digits_plain (decimal n) (decimal_is_IsNumeral n small).0.1
 
-pub number_made : (row : List ℕ) (n : ℕ) → n < 2 ^ 64 → (row ++ 44 ∷ []) ++ decimal n ≡ row ++ fields_text default_writer (decimal n ∷ [])
-number_made row n small = append_assoc row (44 ∷ []) (decimal n) ∙ ap (λ value. row ++ value) (sym (column (decimal n) (decimal_plain n small)))
+pub twenty_digits : (n : ℕ) → n < 2 ^ 64 → length (decimal n) ≤ 20
+twenty_digits n small = length-decimal-le 20 n (omega arith) (omega arith) (omega arith)
+
+pub number_made : (n : ℕ) → n < 2 ^ 64 → 44 ∷ decimal n ≡ fields_text default_writer (decimal n ∷ [])
+number_made n small = sym (column (decimal n) (decimal_plain n small))
+
+pub negative_made : (n : ℕ) → n < 2 ^ 64 → 44 ∷ 45 ∷ decimal n ≡ fields_text default_writer ((45 ∷ decimal n) ∷ [])
+negative_made n small = sym (column (45 ∷ decimal n) (decimal_plain n small))
+
+pub ruleset number_rules = (twenty_digits, number_made)
+
+pub ruleset negative_rules = (twenty_digits, negative_made)
 
 -- four numbers with a comma before each but the first
 pub lead_made : (n a b c : ℕ) → n < 2 ^ 64 → a < 2 ^ 64 → b < 2 ^ 64 → c < 2 ^ 64
@@ -60,22 +70,6 @@ pub ten_digits : (n : ℕ) → n < 2 ^ 32 → length (decimal n) ≤ 10
 ten_digits n small = length-decimal-le 10 n (omega arith) (omega arith) (omega arith)
 
 pub ruleset lead_rules = (ten_digits, lead_made)
-
-signed_plain : (bits number : ℕ) → 1 ≤ bits → bits ≤ 64 → number < 2 ^ bits → list_any is_set_apart (signed bits number) ≡ false
-signed_plain bits number some few bound =
-    let most = pow-le-pow_right {n = 2} (omega arith) few in
-    let half = pow-succ' 2 (bits - 1) in
-    let next : suc (bits - 1) ≡ bits = omega arith in
-    let whole = rw next at half in
-    elim (cases_lt number (2 ^ (bits - 1))) [
-      | inl below ↦ rw (lt-ltb number (2 ^ (bits - 1)) below) (decimal_plain number (omega (arith, most)))
-      | inr above ↦ rw (le-ltb number (2 ^ (bits - 1)) above) (decimal_plain (2 ^ bits - number) (omega (arith, whole, most)))
-    ]
-
-pub signed_made : (row : List ℕ) (bits number : ℕ) → 1 ≤ bits → bits ≤ 64 → number < 2 ^ bits
-    → (row ++ 44 ∷ []) ++ signed bits number ≡ row ++ fields_text default_writer (signed bits number ∷ [])
-signed_made row bits number some few bound =
-    append_assoc row (44 ∷ []) (signed bits number) ∙ ap (λ value. row ++ value) (sym (column (signed bits number) (signed_plain bits number some few bound)))
 
 or_parts : (a b : Bool) → (a || b) ≡ false → (a ≡ false) × (b ≡ false)
 or_parts false b none = (refl, none)
@@ -119,5 +113,5 @@ pub text_made : (row octets : List ℕ) → needs_quotes default_writer (escaped
     → (row ++ 44 ∷ []) ++ escaped octets ≡ row ++ fields_text default_writer (escaped octets ∷ [])
 text_made row octets plain = append_assoc row (44 ∷ []) (escaped octets) ∙ ap (λ value. row ++ value) (sym (column (escaped octets) plain))
 
-pub raw_made : (row octets : List ℕ) → (row ++ (44 ∷ 48 ∷ 120 ∷ [])) ++ encode_lower octets ≡ row ++ fields_text default_writer (raw octets ∷ [])
-raw_made row octets = append_assoc row (44 ∷ 48 ∷ 120 ∷ []) (encode_lower octets) ∙ ap (λ value. row ++ value) (sym (column (raw octets) (hex_plain octets)))
+pub raw_made : (octets : List ℕ) → 44 ∷ 48 ∷ 120 ∷ encode_lower octets ≡ fields_text default_writer (raw octets ∷ [])
+raw_made octets = sym (column (raw octets) (hex_plain octets))

@@ -1,6 +1,6 @@
 //! The texts of a packet's values.
 
-ghost use Rattle.std.specs.Prelude.{◌≡◌, ◌+◌, ◌*◌, ◌^◌, ◌<◌, ◌≤◌, ◌%◌, ◌++◌, ◌∷◌, [], ℕ, List, true, length, IfOk, OnOk, decimal};
+ghost use Rattle.std.specs.Prelude.{◌≡◌, ◌+◌, ◌*◌, ◌^◌, ◌<◌, ◌≤◌, ◌%◌, ◌++◌, ◌∷◌, [], ℕ, List, true, codes, length, IfOk, OnOk, decimal};
 ghost use Rattle.csv.specs.Writing.{default_writer, fields_text};
 ghost use Rattle.tm_fields.specs.code.Line.{HasValues};
 ghost use Rattle.tm_fields.specs.Numbers.{bits_in, octets_at};
@@ -13,17 +13,10 @@ use crate::line::write_value;
 use crate::numbers::number_from;
 use crate::raw::push_raw;
 use csv::Writer;
-use itoa::{Buffer, Integer};
+use itoa::write_digits;
 use std::alloc::{AllocError, Global};
 use std::io::Write;
 use tm_bits::push_escaped;
-
-// Writes a number at the end of a text.
-fn push_number<I: Integer>(text: &mut Vec<u8>, number: I) -> Result<(), AllocError>
-    ensures { OnOk result (text.new.items ≡ text.old.items ++ I.text number) }
-{
-    text.extend_from_slice(Buffer::new().format(number).as_bytes())
-}
 
 /// Two to the power of a number of bits.
 pub(crate) fn power(bits: u32) -> u128
@@ -33,39 +26,47 @@ pub(crate) fn power(bits: u32) -> u128
     1 << bits
 }
 
-// Writes a comma and a number at the end of a row.
+// A comma and twenty digits have this many octets.
+const NUMBER_ROOM: usize = 21;
+
+// Writes a comma and a number at the end of a row. They are made in an array, so the row grows once.
+#[tactic(auto, using(std::proofs::lemmas::Grind::common_steps, crate::proofs::PlainLemmas::number_rules))]
 fn push_uint(row: &mut Vec<u8>, number: u64) -> Result<(), AllocError>
     ensures { OnOk result (row.new.items ≡ row.old.items ++ fields_text default_writer (decimal number ∷ [])) }
 {
-    row.push(b',')?;
-    push_number(row, number)
+    let mut room = [0; NUMBER_ROOM];
+    let begin = write_digits(number, &mut room, NUMBER_ROOM) - 1;
+    room[begin] = b',';
+    row.extend_from_slice(&room[begin..])
 }
 
-// Writes a number of `bits` bits in two's complement at the end of a text.
-fn push_signed(text: &mut Vec<u8>, bits: u32, number: u64) -> Result<(), AllocError>
-    requires some { 1 ≤ bits }
-    requires few { bits ≤ 64 }
-    requires bound { number < 2 ^ bits }
-    ensures { OnOk result (text.new.items ≡ text.old.items ++ signed bits number) }
+// Writes a comma, a minus sign and a number at the end of a row.
+#[tactic(auto, using(std::proofs::lemmas::Grind::common_steps, crate::proofs::PlainLemmas::negative_rules))]
+fn push_negative(row: &mut Vec<u8>, number: u64) -> Result<(), AllocError>
+    ensures { OnOk result (row.new.items
+        ≡ row.old.items ++ fields_text default_writer ((codes "-" ++ decimal number) ∷ [])) }
 {
-    if u128::from(number) < power(bits - 1) {
-        push_number(text, number)
-    } else {
-        let distance = power(bits) - u128::from(number);
-        text.push(b'-')?;
-        push_number(text, distance as u64)
-    }
+    let mut room = [0; NUMBER_ROOM + 1];
+    let sign = write_digits(number, &mut room, NUMBER_ROOM + 1) - 1;
+    room[sign] = b'-';
+    let begin = sign - 1;
+    room[begin] = b',';
+    row.extend_from_slice(&room[begin..])
 }
 
-// Writes a comma and such a number at the end of a row.
+// Writes a comma and a number of `bits` bits in two's complement at the end of a row.
 fn push_int(row: &mut Vec<u8>, bits: u32, number: u64) -> Result<(), AllocError>
     requires some { 1 ≤ bits }
     requires few { bits ≤ 64 }
     requires bound { number < 2 ^ bits }
     ensures { OnOk result (row.new.items ≡ row.old.items ++ fields_text default_writer (signed bits number ∷ [])) }
 {
-    row.push(b',')?;
-    push_signed(row, bits, number)
+    if u128::from(number) < power(bits - 1) {
+        push_uint(row, number)
+    } else {
+        let distance = power(bits) - u128::from(number);
+        push_negative(row, distance as u64)
+    }
 }
 
 // `count` octets from a bit on, of a field that doesn't begin on an octet's border.

@@ -32,7 +32,7 @@ passed n register = remainder_from register (replicate n false)
 pub shifted-passed : (n : ℕ) (xs : List Bool) → shifted n xs ≡ passed n (remainder_from 0 xs)
 shifted-passed n xs = remainder_from-append 0 xs (replicate n false)
 
-passed-add : (m n register : ℕ) → passed (m + n) register ≡ passed n (passed m register)
+pub passed-add : (m n register : ℕ) → passed (m + n) register ≡ passed n (passed m register)
 passed-add m n register =
     ap (remainder_from register) (sym (replicate-append-replicate m n false)) ∙ remainder_from-append register (replicate m false) (replicate n false)
 

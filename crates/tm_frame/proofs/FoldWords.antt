@@ -1,19 +1,20 @@
 -- Folding in words of 64 bits.
-use Rattle.std.proofs.Common.{◌≡◌, ℕ, zero, suc, ◌+◌, ◌-◌, ◌*◌, ◌^◌, ◌/◌, ◌%◌, ◌<◌, ◌≤◌, Bool, false, List, [], ◌∷◌, ◌++◌, length, take, drop, get_or, set, refl, sym, ap, ap₂, ◌∙◌, arith, length-append, append_assoc, append-nil, length-drop}
+use Rattle.std.proofs.Common.{◌≡◌, ℕ, zero, suc, ◌+◌, ◌-◌, ◌*◌, ◌^◌, ◌/◌, ◌%◌, ◌<◌, ◌≤◌, Bool, true, false, List, [], ◌∷◌, ◌++◌, length, take, drop, get_or, set, refl, sym, ap, ap₂, ◌∙◌, arith, length-append, append_assoc, append-nil, length-drop}
 use Rattle.std.specs.Prelude.{bit_xor, replicate}
 use Rattle.std.specs.Int.Bits.{xor_assoc}
 use Rattle.std.proofs.lemmas.Nat.{xor_comm, shl-shr, shr-shr}
 use Rattle.std.proofs.Math.Seq.{take-add}
 use Rattle.byteorder.specs.Endian.{big_number}
-use Rattle.std.proofs.lemmas.List.{length-set, length-take-le, get_or-take, drop_at, at_drop_more, take_more, take_all, take_more_set, take_rest, length-replicate, replicate-append-replicate}
-use Rattle.tm_bits.specs.Bits.{low_bits, bits_of, AreOctets}
+use Rattle.std.proofs.lemmas.List.{length-set, length-take-le, get_or-take, drop_all, drop_at, drop_more, at_drop_more, take_more_set, take_rest, length-replicate, replicate-append-replicate}
+use Rattle.tm_bits.specs.Bits.{low_bits, bits_of, number, AreOctets}
 use Rattle.tm_bits.proofs.BitLemmas.{length-low_bits, low_bits-mod, bits_spelled, low_bits-split, bits_of-append}
 use Rattle.tm_bits.proofs.PartLemmas.{octets_behind, length-bits_of-take}
 use Rattle.tm_frame.specs.code.Folding.{Folds, remainder_from, shifted, bits_of_words, words_remainder}
 use Rattle.tm_frame.proofs.HeaderLemmas.{number-bits_of-take}
-use Rattle.tm_frame.proofs.Division.{low_bits-zero, low_bits-shl, remainder_from-append}
-use Rattle.tm_frame.proofs.Linear.{passed_linear, bits_linear, after_linear, remainder_from-zeros}
-use Rattle.tm_frame.proofs.Fold.{shifted-passed, remainder-apart, zeros-passed, bits-fold}
+use Rattle.tm_frame.proofs.Division.{low_bits-zero, low_bits-shl}
+use Rattle.tm_frame.specs.ErrorControl.{subtract, long_division}
+use Rattle.tm_frame.proofs.Linear.{IsLinear, agree, linear_agree, same_linear, sum_linear, shr_linear, shl_linear, passed_linear, bits_linear, after_linear, xor_exchange}
+use Rattle.tm_frame.proofs.Fold.{passed, passed-add, shifted-passed, remainder-apart, zeros-passed, bits-fold}
 
 -- ---- the bits of words
 
@@ -21,7 +22,7 @@ bits_of_words-cons : (w : ℕ) (ws : List ℕ) → bits_of_words (w ∷ ws) ≡ 
 unfolding bits_of_words
 bits_of_words-cons w ws = refl
 
-bits_of_words-one : (w : ℕ) → bits_of_words (w ∷ []) ≡ low_bits 64 w
+pub bits_of_words-one : (w : ℕ) → bits_of_words (w ∷ []) ≡ low_bits 64 w
 unfolding bits_of_words
 bits_of_words-one w = append-nil (low_bits 64 w)
 
@@ -177,6 +178,108 @@ word_taken ws front behind after i total inside first last taken before =
     ∙ sym (at_drop_more words_remainder ws i 0 inside)
     ∙ before
 
+-- ---- a word is taken away by its quotient
+
+-- the quotients of a word by the generator's powers 8 and 4
+abbrev by_eight : ℕ → ℕ
+by_eight n = bit_xor n (n / 2 ^ 32)
+
+abbrev by_four : ℕ → ℕ
+by_four n = bit_xor (by_eight n) (bit_xor (by_eight n / 2 ^ 16) (by_eight n / 2 ^ 44))
+
+-- what they add to the words that follow
+abbrev to_next : ℕ → ℕ
+to_next n = bit_xor (by_eight n * 2 ^ 32 % 2 ^ 64) (by_eight n / 2 ^ 24)
+
+abbrev to_after : ℕ → ℕ
+to_after n = bit_xor (by_eight n * 2 ^ 40 % 2 ^ 64) (by_eight n)
+
+abbrev to_last : ℕ → ℕ
+to_last n = bit_xor (bit_xor (by_four n * 2 ^ 48 % 2 ^ 64) (by_four n * 2 ^ 20 % 2 ^ 64)) (by_four n)
+
+by_eight_linear : IsLinear by_eight
+by_eight_linear = sum_linear same_linear (shr_linear 32)
+
+to_next_linear : IsLinear to_next
+to_next_linear = after_linear (sum_linear (shl_linear 32 64) (shr_linear 24)) by_eight_linear
+
+to_after_linear : IsLinear to_after
+to_after_linear = after_linear (sum_linear (shl_linear 40 64) same_linear) by_eight_linear
+
+to_last_linear : IsLinear to_last
+to_last_linear =
+    after_linear (sum_linear (sum_linear (shl_linear 48 64) (shl_linear 20 64)) same_linear)
+    (after_linear (sum_linear same_linear (sum_linear (shr_linear 16) (shr_linear 44))) by_eight_linear)
+
+-- what division leaves of a word, and then of n zeros
+abbrev left_by : ℕ → ℕ → ℕ
+left_by n word = passed n (remainder_from 0 (low_bits 64 word))
+
+left_linear : {f : ℕ → ℕ} (n : ℕ) → IsLinear f → IsLinear (λ word. left_by n (f word))
+left_linear n linear = after_linear (passed_linear n) (after_linear (bits_linear 64) linear)
+
+-- they are right for each single bit, and so for each word
+two_agree : agree (λ k. left_by 128 (2 ^ k)) (λ k. bit_xor (left_by 64 (to_next (2 ^ k))) (left_by 0 (to_after (2 ^ k)))) 64 ≡ true
+unfolding remainder_from number long_division subtract low_bits
+two_agree = refl
+
+one_agrees : agree (λ k. left_by 64 (2 ^ k)) (λ k. left_by 0 (to_last (2 ^ k))) 64 ≡ true
+unfolding remainder_from number long_division subtract low_bits
+one_agrees = refl
+
+left_by_two : (word : ℕ) → word < 2 ^ 64 → left_by 128 word ≡ bit_xor (left_by 64 (to_next word)) (left_by 0 (to_after word))
+left_by_two =
+    linear_agree (left_by 128) (λ word. bit_xor (left_by 64 (to_next word)) (left_by 0 (to_after word)))
+    (left_linear 128 same_linear) (sum_linear (left_linear 64 to_next_linear) (left_linear 0 to_after_linear)) 64 two_agree
+
+left_by_one : (word : ℕ) → word < 2 ^ 64 → left_by 64 word ≡ left_by 0 (to_last word)
+left_by_one = linear_agree (left_by 64) (λ word. left_by 0 (to_last word)) (left_linear 64 same_linear) (left_linear 0 to_last_linear) 64 one_agrees
+
+-- a word with n and then m zeros after it
+left_apart : (n m k word : ℕ) → k ≡ n + m → shifted k (low_bits 64 word) ≡ passed m (left_by n word)
+left_apart n m k word e =
+    shifted-passed k (low_bits 64 word)
+    ∙ ap (λ j. passed j (remainder_from 0 (low_bits 64 word))) e
+    ∙ passed-add n m (remainder_from 0 (low_bits 64 word))
+
+-- before two words and m others
+pub word_into_two : (word next after : ℕ) → word < 2 ^ 64 → (ws : List ℕ)
+    → words_remainder (bit_xor next (to_next word) ∷ bit_xor after (to_after word) ∷ ws) ≡ words_remainder (word ∷ next ∷ after ∷ ws)
+word_into_two word next after small ws =
+    let m : ℕ = length ws in
+    let at : ℕ → ℕ → ℕ = λ n x. shifted (64 * n) (low_bits 64 x) in
+    let r : ℕ = words_remainder ws in
+    let a : ℕ = at (suc m) next in
+    let b : ℕ = at m after in
+    let d : ℕ = at (suc m) (to_next word) in
+    let e : ℕ = at m (to_after word) in
+    let front : at (suc (suc m)) word ≡ bit_xor d e =
+    left_apart 128 (64 * m) (64 * suc (suc m)) word (omega arith)
+    ∙ ap (passed (64 * m)) (left_by_two word small)
+    ∙ (passed_linear (64 * m)).joins (left_by 64 (to_next word)) (left_by 0 (to_after word))
+    ∙ sym (ap₂ bit_xor (left_apart 64 (64 * m) (64 * suc m) (to_next word) (omega arith)) (left_apart 0 (64 * m) (64 * m) (to_after word) (omega arith))) in
+    words_remainder-cons (bit_xor next (to_next word)) (suc m) (bit_xor after (to_after word) ∷ ws) refl
+    ∙ ap₂ bit_xor (shifted-xor (64 * suc m) next (to_next word))
+    (words_remainder-cons (bit_xor after (to_after word)) m ws refl ∙ ap (λ k. bit_xor k r) (shifted-xor (64 * m) after (to_after word)))
+    ∙ ap₂ bit_xor (xor_comm a d) (ap (λ k. bit_xor k r) (xor_comm b e) ∙ xor_assoc e b r)
+    ∙ xor_exchange d a e (bit_xor b r)
+    ∙ ap₂ bit_xor (sym front) (ap (bit_xor a) (sym (words_remainder-cons after m ws refl)) ∙ sym (words_remainder-cons next (suc m) (after ∷ ws) refl))
+    ∙ sym (words_remainder-cons word (suc (suc m)) (next ∷ after ∷ ws) refl)
+
+-- before one word
+pub word_into_one : (word next : ℕ) → word < 2 ^ 64 → words_remainder (bit_xor next (to_last word) ∷ []) ≡ words_remainder (word ∷ next ∷ [])
+word_into_one word next small =
+    let r : ℕ = words_remainder [] in
+    let a : ℕ = shifted 0 (low_bits 64 next) in
+    let t : ℕ = shifted 0 (low_bits 64 (to_last word)) in
+    let front : shifted 64 (low_bits 64 word) ≡ t =
+    shifted-passed 64 (low_bits 64 word) ∙ left_by_one word small ∙ sym (shifted-passed 0 (low_bits 64 (to_last word))) in
+    words_remainder-cons (bit_xor next (to_last word)) 0 [] refl
+    ∙ ap (λ k. bit_xor k r) (shifted-xor 0 next (to_last word) ∙ xor_comm a t)
+    ∙ xor_assoc t a r
+    ∙ ap₂ bit_xor (sym front) (sym (words_remainder-cons next 0 [] refl))
+    ∙ sym (words_remainder-cons word 1 (next ∷ []) refl)
+
 -- ---- words and octets
 
 -- the bits of a word are those of its octets
@@ -204,14 +307,10 @@ fill_step ws octets i v inside room are read before =
     ∙ sym (bits_of-append (take (8 * i) octets) (take 8 (drop (8 * i) octets)))
     ∙ ap bits_of (sym (ap (λ n. take n octets) next ∙ take-add (8 * i) 8 octets))
 
--- the register after no word, after one word more, and after the last
-pub words_none : words_remainder [] ≡ 0
-unfolding bits_of_words
-words_none = remainder_from-zeros 0
-
-pub words_more : (ws : List ℕ) (i : ℕ) → i < length ws → words_remainder (take (i + 1) ws) ≡ remainder_from (words_remainder (take i ws)) (low_bits 64 (get_or ws i 0))
-words_more ws i inside =
-    let w : ℕ = get_or ws i 0 in
-    rw (take_more ws i 0 inside, bits_of_words-append (take i ws) (w ∷ []), bits_of_words-one w, remainder_from-append 0 (bits_of_words (take i ws)) (low_bits 64 w)) refl
-
-pub ruleset word_by_word = (words_none, words_more, take_all)
+-- the last four of eight words
+pub last_four : (ws : List ℕ) → length ws ≡ 8 → get_or ws 4 0 ∷ get_or ws 5 0 ∷ get_or ws 6 0 ∷ get_or ws 7 0 ∷ [] ≡ drop 4 ws
+last_four ws all =
+    let at : (i : ℕ) → i < 8 → drop i ws ≡ get_or ws i 0 ∷ drop (i + 1) ws = λ i inside. drop_more ws i 0 (omega (arith, all)) in
+    sym (
+    rw (at 4 (omega arith), at 5 (omega arith), at 6 (omega arith), at 7 (omega arith), drop_all 8 ws (omega (arith, all))) refl
+    )

@@ -1,11 +1,12 @@
 -- A word of 64 bits divided by shifts.
-use Rattle.std.proofs.Common.{◌≡◌, ℕ, ◌*◌, ◌/◌, ◌%◌, ◌^◌, ◌<◌, true, false, refl, sym, ap₂, ◌∙◌}
-use Rattle.std.specs.Prelude.{replicate, bit_and, bit_xor}
-use Rattle.std.proofs.lemmas.Nat.{and_mask, xor_comm, xor_mod}
+use Rattle.std.proofs.Common.{◌≡◌, ℕ, ◌*◌, ◌/◌, ◌%◌, ◌^◌, ◌<◌, true, [], ◌∷◌, refl, sym, ap, ap₂, ◌∙◌}
+use Rattle.std.specs.Prelude.{bit_and, bit_xor}
+use Rattle.std.proofs.lemmas.Nat.{and_mask, xor_mod}
 use Rattle.tm_bits.specs.Bits.{low_bits, number}
 use Rattle.tm_frame.specs.ErrorControl.{subtract, long_division}
-use Rattle.tm_frame.specs.code.Folding.{remainder_from}
-use Rattle.tm_frame.proofs.Linear.{IsLinear, agree, linear_agree, same_linear, sum_linear, after_linear, shr_linear, shl_linear, passed_linear, bits_linear, remainder_from-apart}
+use Rattle.tm_frame.specs.code.Folding.{remainder_from, words_remainder}
+use Rattle.tm_frame.proofs.FoldWords.{bits_of_words-one}
+use Rattle.tm_frame.proofs.Linear.{IsLinear, agree, linear_agree, same_linear, sum_linear, after_linear, shr_linear, shl_linear, bits_linear}
 
 -- ---- what the code computes of a word
 
@@ -59,21 +60,5 @@ bits_agree = refl
 bits_divided : (word : ℕ) → word < 2 ^ 64 → divided word ≡ remainder_from 0 (low_bits 64 word)
 bits_divided = linear_agree divided (λ n. remainder_from 0 (low_bits 64 n)) divided_linear (bits_linear 64) 64 bits_agree
 
--- ---- with a register in front
-
-front_agrees : agree (λ k. divided (2 ^ k * 2 ^ 48 % 2 ^ 64)) (λ k. remainder_from (2 ^ k) (replicate 64 false)) 16 ≡ true
-unfolding remainder_from number long_division subtract low_bits
-front_agrees = refl
-
-front_divided : (register : ℕ) → register < 2 ^ 16 → divided (register * 2 ^ 48 % 2 ^ 64) ≡ remainder_from register (replicate 64 false)
-front_divided =
-    linear_agree (λ n. divided (n * 2 ^ 48 % 2 ^ 64)) (λ n. remainder_from n (replicate 64 false)) (after_linear divided_linear (shl_linear 48 64)) (passed_linear 64) 16 front_agrees
-
-pub word_divided : (register word : ℕ) → register < 2 ^ 16 → word < 2 ^ 64
-    → divided (bit_xor word (register * 2 ^ 48 % 2 ^ 64)) ≡ remainder_from register (low_bits 64 word)
-unfolding low_bits
-word_divided register word fits small =
-    divided_linear.joins word (register * 2 ^ 48 % 2 ^ 64)
-    ∙ ap₂ bit_xor (bits_divided word small) (front_divided register fits)
-    ∙ xor_comm (remainder_from 0 (low_bits 64 word)) (remainder_from register (replicate 64 false))
-    ∙ sym (remainder_from-apart register (low_bits 64 word))
+pub word_divided : (word : ℕ) → word < 2 ^ 64 → divided word ≡ words_remainder (word ∷ [])
+word_divided word small = bits_divided word small ∙ ap (remainder_from 0) (sym (bits_of_words-one word))

@@ -1,6 +1,6 @@
 //! Error control (CCSDS 132.0-B-3, 4.1.6), by folding and by a table.
 
-ghost use Rattle.std.specs.Prelude.{◌≡◌, ◌≤◌, ◌<◌, ◌+◌, ◌-◌, ◌*◌, ◌/◌, ◌%◌, ◌∷◌, ◌++◌, length, take, drop, bit_xor};
+ghost use Rattle.std.specs.Prelude.{◌≡◌, ◌≤◌, ◌<◌, ◌+◌, ◌-◌, ◌*◌, ◌/◌, ◌%◌, ◌∷◌, [], ◌++◌, ℕ, List, length, take, drop, bit_xor};
 ghost use Rattle.tm_bits.specs.Bits.{bits_of, low_bits};
 ghost use Rattle.tm_frame.specs.ErrorControl.{error_control_of};
 ghost use Rattle.tm_frame.specs.Fault.{control_holds};
@@ -115,7 +115,8 @@ fn finish(held: &[u8; 128]) -> u16
     let mut words = [0; 8];
     fill(&mut words, &octets[64..]);
     fold(&mut words, 16);
-    shift_words(&words[4..])
+    let [_, _, _, _, first, second, third, last] = words;
+    divide_four(first, second, third, last)
 }
 
 // The octets that are given. Pair by pair, since `copy_from_slice` asks where slices lie, and so would keep
@@ -282,28 +283,46 @@ fn add_at(words: &mut [u64], place: usize, word: u64)
     }
 }
 
-// The register after words, from zeros.
+// The remainder of four words. The first two are taken away by the generator's power 8, the third by its power 4, and the last is divided.
 #[inline(always)]
-#[tactic(auto, using(crate::proofs::FoldWords::word_by_word))]
-fn shift_words(words: &[u64]) -> u16
-    ensures { result ≡ words_remainder words.now }
+fn divide_four(first: u64, second: u64, third: u64, last: u64) -> u16
+    ensures { result ≡ words_remainder (first ∷ second ∷ third ∷ last ∷ []) }
 {
-    let mut register = 0;
-    for word in words {
-        register = shift_word(register, *word);
-    }
-    register
+    let (second, third) = fold_into_two(first, second, third);
+    let (third, last) = fold_into_two(second, third, last);
+    divide_word(fold_into_one(third, last))
 }
 
-// The register after a word. The quotient by the generator is the word times the generator's powers 8, 4, 2 and 1. With the
+// The word before two others is taken away: its quotient by the generator's power 8 is added to them, 32, 88 and 128 bits further on.
+#[inline(always)]
+fn fold_into_two(word: u64, next: u64, after: u64) -> (u64, u64)
+    ensures { (ws : List ℕ) → words_remainder (result.0 ∷ result.1 ∷ ws) ≡ words_remainder (word ∷ next ∷ after ∷ ws) }
+{
+    let quotient = word ^ (word >> 32);
+    (
+        next ^ ((quotient << 32) ^ (quotient >> 24)),
+        after ^ ((quotient << 40) ^ quotient),
+    )
+}
+
+// The word before another is taken away: its quotient by the generator's power 4 is added to it, 16, 44 and 64 bits further on.
+#[inline(always)]
+fn fold_into_one(word: u64, next: u64) -> u64
+    ensures { words_remainder (result ∷ []) ≡ words_remainder (word ∷ next ∷ []) }
+{
+    let mut quotient = word ^ (word >> 32);
+    quotient ^= (quotient >> 16) ^ (quotient >> 44);
+    next ^ ((quotient << 48) ^ (quotient << 20) ^ quotient)
+}
+
+// The remainder of a word. The quotient by the generator is the word times the generator's powers 8, 4, 2 and 1. With the
 // generator itself these make its power 16: a 1 and then 63 zeros or more.
 #[inline(always)]
 #[tactic(auto, using(crate::proofs::Words::word_divided))]
-fn shift_word(register: u16, word: u64) -> u16
-    ensures { result ≡ remainder_from register (low_bits 64 word) }
+fn divide_word(word: u64) -> u16
+    ensures { result ≡ words_remainder (word ∷ []) }
 {
-    let mut quotient = word ^ ((register as u64) << 48);
-    quotient ^= quotient >> 32;
+    let mut quotient = word ^ (word >> 32);
     quotient ^= (quotient >> 16) ^ (quotient >> 44);
     quotient ^= (quotient >> 8) ^ (quotient >> 22) ^ (quotient >> 32);
     quotient ^= (quotient >> 4) ^ (quotient >> 11) ^ (quotient >> 16);

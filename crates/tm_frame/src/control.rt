@@ -102,8 +102,8 @@ fn append_block(held: &mut [u8; 128], block: &[u8])
     copy(held, &octets[128..]);
 }
 
-// The remainder of the octets: pairs and then words are folded once more, and the last four words are divided. Apart from its caller, which
-// gives a copy: else the compiler would keep the octets held in memory or as words.
+// The remainder of the octets: pairs and then words are folded once more, and four words are left. Apart from its caller, which gives a
+// copy: else the compiler would keep the octets held in memory or as words.
 #[inline(never)]
 #[tactic(auto, using(crate::proofs::Fold::folds_32, crate::proofs::Fold::folds_16))]
 fn finish(held: &[u8; 128]) -> u16

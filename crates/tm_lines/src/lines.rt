@@ -184,7 +184,7 @@ fn place_of(packet: &Packet<'_>) -> PacketPlace
 }
 
 // A packet of fewer octets is short. Where packets are short, most records have several, whose lines have the same beginning.
-const SHORT: usize = 128;
+const SHORT: usize = 64;
 
 /// The line of a packet.
 #[inline(always)]

@@ -1,15 +1,15 @@
 //! The reassembly of packets, record by record.
 
-ghost use Rattle.std.specs.Prelude.{◌≡◌, ◌⊎◌, ◌+◌, ◌*◌, ◌<◌, ◌≤◌, ◌++◌, IfOk, IfErr, OnOk, OnErr, IsOk, Ok, Err, vec_len, vec_capacity, replicate, List, Option, None, Some, true, false, [], ◌∷◌, length};
+ghost use Rattle.std.specs.Prelude.{◌≡◌, ◌⊎◌, ◌+◌, if◌then◌else◌, ◌*◌, ◌<◌, ◌≤◌, ◌++◌, IfOk, IfErr, OnOk, OnErr, Ok, Err, vec_len, vec_capacity, replicate, List, Option, None, Some, true, false, [], ◌∷◌, length};
 ghost use Rattle.std.specs.List.{flat_map};
 ghost use Rattle.tm_frame.specs.Layout.{record_length_of};
-ghost use Rattle.tm_reassembly.specs.Checkpoint.{block, state_spelling, blocks_read, state_decoding_of, old_decoding_of};
-ghost use Rattle.tm_reassembly.specs.code.Blocks.{KeepBlocks, channels_decoding, decoding_in};
+ghost use Rattle.tm_reassembly.specs.Checkpoint.{block, state_spelling, blocks_read, state_decoding_of, old_decoding_of, spelled_octets};
+ghost use Rattle.tm_reassembly.specs.code.Blocks.{HaveBlocks, IsFront, KeepBlocks, channels_decoding, decoding_in};
 ghost use Rattle.tm_reassembly.specs.Items.{closing, close_channels};
 ghost use Rattle.tm_reassembly.specs.code.Slots.{HaveLimit, lasts, capacities, state_in_slots, unused};
 ghost use Rattle.tm_reassembly.specs.State.{octets_in, State, Last};
 ghost use Rattle.tm_reassembly.specs.Recording.{items, after, is_chosen_frame};
-ghost use Rattle.tm_frame.specs.Rules.{IsLimit, chooses};
+ghost use Rattle.tm_frame.specs.Rules.{IsLimit, Rules, chooses};
 ghost use Rattle.tm_items.specs.Giving.{Gives};
 ghost use Rattle.tm_items.specs.Sinks.{TakesAll};
 ghost use Rattle.tm_reassembly.specs.Steps.{Progress, new_progress, most_records, progress_in, step_items, stepped, StepRefused, CloseRefused, last_count_of, rules_of, IsRestored, IsRefusal};
@@ -332,10 +332,66 @@ impl Reassembly {
         };
         decode_form(alloc, rules, Form::WithoutMaster, older)
     }
+
+    /// Checks the spelling at the beginning of these octets as `decode` does, or as `decode_old` where it is without the master channel's
+    /// count. It takes no memory. Answers the number of octets that `decode` reads.
+    ///
+    /// # Errors
+    ///
+    /// As `decode`, and never `NoMemory`.
+    pub fn check(
+        layout: Layout,
+        channels: Channels,
+        max_packet: u32,
+        with_master: bool,
+        octets: &[u8],
+    ) -> Result<usize, StateFault>
+        ensures { let rules = rules_of layout channels max_packet in result ≡ spelled_octets
+            (if with_master then state_decoding_of rules octets.now else old_decoding_of rules octets.now) }
+    {
+        let rules = Rules {
+            layout,
+            channels,
+            max_packet,
+        };
+        if with_master {
+            check_form(&rules, Form::WithMaster, octets)
+        } else {
+            check_form(&rules, Form::WithoutMaster, octets)
+        }
+    }
+}
+
+// Reads what a spelling has before the channels: the number of records, the last master channel count, and how many octets these are.
+#[tactic(auto, using(crate::proofs::Decoding::decoding_short))]
+fn read_front(form: Form, octets: &[u8]) -> Result<(u32, Option<u8>, usize), StateFault>
+    ensures ok { IfOk result (IsFront form octets.now) }
+    ensures refused { IfErr result (λ fault. (rules : Rules) → decoding_in form rules octets.now ≡ Err fault) }
+{
+    if octets.len() < 4 {
+        return Err(StateFault::Short);
+    }
+    match read_master(form, &octets[4..]) {
+        Ok((master, used)) => Ok((four_at(octets, 0), master, 4 + used)),
+        Err(fault) => Err(fault),
+    }
+}
+
+// Checks a spelling of this form. Answers how many octets it has.
+fn check_form(rules: &Rules, form: Form, octets: &[u8]) -> Result<usize, StateFault>
+    ensures { result ≡ spelled_octets (decoding_in form rules.now octets.now) }
+{
+    let (records, _, start) = match read_front(form, octets) {
+        Ok(front) => front,
+        Err(fault) => return Err(fault),
+    };
+    match check_channels(rules, records, &octets[start..]) {
+        Ok(read) => Ok(start + read),
+        Err(fault) => Err(fault),
+    }
 }
 
 // Reads a spelling of this form.
-#[tactic(auto, using(crate::proofs::Decoding::decoding_short))]
 fn decode_form(
     alloc: Global,
     rules: Rules,
@@ -346,13 +402,9 @@ fn decode_form(
     ensures ok { IfOk result (λ read. IsRestored (decoding_in form) rules octets.now read) }
     ensures refused { IfErr result (IsRefusal (decoding_in form rules octets.now)) }
 {
-    if octets.len() < 4 {
-        return Err(StateFault::Short);
-    }
-    let records = four_at(octets, 0);
-    match read_master(form, &octets[4..]) {
-        Ok((master, used)) => {
-            decode_channels(alloc, rules, records, master, 4 + used, &octets[4 + used..])
+    match read_front(form, octets) {
+        Ok((records, master, start)) => {
+            decode_channels(alloc, rules, records, master, start, &octets[start..])
         }
         Err(fault) => Err(fault),
     }
@@ -373,7 +425,7 @@ fn decode_channels(
     ensures ok { IfOk result (λ read. IsRestored (channels_decoding records master start) rules octets.now read) }
     ensures refused { IfErr result (IsRefusal (channels_decoding records master start rules octets.now)) }
 {
-    if let Err(fault) = check(&rules, records, octets) {
+    if let Err(fault) = check_channels(&rules, records, octets) {
         return Err(fault);
     }
     let Ok(mut states) = eight_states(alloc, rules.max_packet as usize) else {
@@ -537,10 +589,10 @@ fn push_channels(out: &mut Vec<u8>, states: &[ChannelState; 8])
     }
 }
 
-// The first fault of the channels' blocks, if there is one.
+// Checks the blocks of the channels. Answers how many octets they have.
 #[tactic(auto, using(crate::proofs::Blocks::some_none, crate::proofs::Blocks::some_more))]
-fn check(rules: &Rules, records: u32, octets: &[u8]) -> Result<(), StateFault>
-    ensures ok { OnOk result (IsOk (blocks_read rules.now records 8 0 octets.now)) }
+fn check_channels(rules: &Rules, records: u32, octets: &[u8]) -> Result<usize, StateFault>
+    ensures ok { IfOk result (HaveBlocks rules.now records octets.now) }
     ensures refused { IfErr result (λ fault. blocks_read rules.now records 8 0 octets.now ≡ Err fault) }
 {
     let mut at = 0;
@@ -550,7 +602,7 @@ fn check(rules: &Rules, records: u32, octets: &[u8]) -> Result<(), StateFault>
             Err(fault) => return Err(fault),
         }
     }
-    Ok(())
+    Ok(at)
 }
 
 // Keeps what the blocks say of the channels. Answers how many octets they have.

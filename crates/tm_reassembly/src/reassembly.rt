@@ -1,14 +1,15 @@
 //! The reassembly of packets, record by record.
 
-ghost use Rattle.std.specs.Prelude.{◌≡◌, ◌⊎◌, ◌+◌, if◌then◌else◌, ◌*◌, ◌<◌, ◌≤◌, ◌++◌, IfOk, IfErr, OnOk, OnErr, Ok, Err, vec_len, vec_capacity, replicate, List, Option, None, Some, true, false, [], ◌∷◌, length};
+ghost use Rattle.std.specs.Prelude.{◌≡◌, ◌⊎◌, ◌+◌, if◌then◌else◌, ◌*◌, ◌<◌, ◌≤◌, ◌++◌, IfOk, IfErr, OnOk, OnErr, Ok, Err, vec_len, vec_capacity, replicate, ℕ, List, Option, None, Some, true, false, [], ◌∷◌, length};
 ghost use Rattle.std.specs.List.{flat_map};
+ghost use Rattle.tm_frame.specs.Fault.{frame_reading_of};
 ghost use Rattle.tm_frame.specs.Layout.{record_length_of};
 ghost use Rattle.tm_reassembly.specs.Checkpoint.{block, state_spelling, blocks_read, state_decoding_of, old_decoding_of, spelled_octets};
 ghost use Rattle.tm_reassembly.specs.code.Blocks.{HaveBlocks, IsFront, KeepBlocks, channels_decoding, decoding_in};
 ghost use Rattle.tm_reassembly.specs.Items.{closing, close_channels};
 ghost use Rattle.tm_reassembly.specs.code.Slots.{HaveLimit, lasts, capacities, state_in_slots, unused};
 ghost use Rattle.tm_reassembly.specs.State.{octets_in, State, Last};
-ghost use Rattle.tm_reassembly.specs.Recording.{items, after, is_chosen_frame};
+ghost use Rattle.tm_reassembly.specs.Recording.{items, after, is_chosen_frame, is_chosen_reading};
 ghost use Rattle.tm_frame.specs.Rules.{IsLimit, Rules, chooses};
 ghost use Rattle.tm_items.specs.Giving.{Gives};
 ghost use Rattle.tm_items.specs.Sinks.{TakesAll};
@@ -23,7 +24,7 @@ use crate::checkpoint::{
 use crate::fault::{NoMemory, StateFault, StepFault};
 use std::alloc::{AllocError, Global};
 use std::marker::Model;
-use tm_frame::{Channels, Layout, Rules, read};
+use tm_frame::{Channels, Frame, FrameFault, Layout, Rules, read};
 use tm_items::{Item, Sink};
 
 /// Takes the records of a recording one by one, and gives the packets of the chosen channels and what was lost.
@@ -121,6 +122,30 @@ impl Reassembly {
         ensures refused { IfErr result (StepRefused S.known S.takes S.refuses self.old self.new sink.old sink.new
             (step_items self.old octets.now)) }
     {
+        let layout = self.rules.layout;
+        self.step_frame(read(&layout, octets), octets, sink)
+    }
+
+    /// Takes the next record as `step_record` does, where its octets are read already.
+    ///
+    /// # Errors
+    ///
+    /// As `step_record`.
+    #[inline(always)]
+    pub fn step_frame<S: Sink>(
+        &mut self,
+        reading: Result<Frame<'_>, FrameFault>,
+        octets: &[u8],
+        sink: &mut S,
+    ) -> Result<bool, StepFault<S::Fault>>
+        requires { reading ≡ frame_reading_of self.old.rules.layout octets.now }
+        ensures accepted { OnOk result (TakesAll S.takes (S.known sink.old) (step_items self.old octets.now) (S.known sink.new)) }
+        ensures chosen { IfOk result (λ chosen. chosen ≡ is_chosen_frame self.old.rules octets.now) }
+        ensures left { OnOk result (self.new ≡ stepped self.old octets.now) }
+        ensures asked { OnOk result ((self.old.failed ≡ false) × (self.old.state.records < most_records)) }
+        ensures refused { IfErr result (StepRefused S.known S.takes S.refuses self.old self.new sink.old sink.new
+            (step_items self.old octets.now)) }
+    {
         if self.failed() {
             return Err(StepFault::Failed);
         }
@@ -132,7 +157,7 @@ impl Reassembly {
             self.records,
             &mut self.master,
             &mut self.states,
-            octets,
+            reading,
             sink,
         ) {
             Ok(chosen) => {
@@ -489,26 +514,26 @@ fn eight_states(alloc: Global, limit: usize) -> Result<[ChannelState; 8], AllocE
     Ok(states_in_a_row(four_states(alloc, limit)?, four_states(alloc, limit)?))
 }
 
-// Reads a record, after `seen` that are done. Answers whether it is a good frame of a chosen channel.
+// Takes a record that reads so, after `seen` that are done. Answers whether it is a good frame of a chosen channel.
+#[inline(always)]
 fn add_record<S: Sink>(
     rules: &Rules,
     seen: u32,
     master: &mut Option<u8>,
     states: &mut [ChannelState; 8],
-    octets: &[u8],
+    reading: Result<Frame<'_>, FrameFault>,
     sink: &mut S,
 ) -> Result<bool, S::Fault>
-    requires record { length octets.now ≡ record_length_of rules.now.layout }
     requires state { IsValidState rules.now (state_in_slots seen master.old states.old) }
     requires limit { HaveLimit rules.now.max_packet states.old }
-    ensures given { Gives S.Sink sink.old sink.new
-        (items rules.now (state_in_slots seen master.old states.old) (octets.now ∷ [])) result }
-    ensures chosen { IfOk result (λ chosen. chosen ≡ is_chosen_frame rules.now octets.now) }
-    ensures left { OnOk result (state_in_slots (seen + 1) master.new states.new
-        ≡ after rules.now (state_in_slots seen master.old states.old) (octets.now ∷ [])) }
+    ensures given { (octets : List ℕ) → frame_reading_of rules.now.layout octets ≡ reading.entry → Gives S.Sink sink.old sink.new
+        (items rules.now (state_in_slots seen master.old states.old) (octets ∷ [])) result }
+    ensures chosen { IfOk result (λ chosen. chosen ≡ is_chosen_reading rules.now reading.entry) }
+    ensures left { OnOk result ((octets : List ℕ) → frame_reading_of rules.now.layout octets ≡ reading.entry
+        → state_in_slots (seen + 1) master.new states.new ≡ after rules.now (state_in_slots seen master.old states.old) (octets ∷ [])) }
     ensures limit { OnOk result (HaveLimit rules.now.max_packet states.new) }
 {
-    match read(&rules.layout, octets) {
+    match reading {
         Ok(frame) => {
             let count = frame.master_count();
             if let Err(fault) = give_master_gap(seen, *master, count, sink) {

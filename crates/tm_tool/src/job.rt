@@ -84,8 +84,8 @@ impl Job {
     }
 }
 
-// What was done: the job is kept, unless the ending closed the recording.
-fn make_done(extractor: Extractor, fresh: bool, ending: Ending, totals: Totals) -> Done
+/// What was done: the job is kept, unless the ending closed the recording.
+pub(crate) fn make_done(extractor: Extractor, fresh: bool, ending: Ending, totals: Totals) -> Done
     requires ready { IsReady extractor }
     ensures totals { result.totals ≡ totals }
     ensures records { result.records ≡ extractor.reassembly.state.records }

@@ -8,3 +8,5 @@ pub mod RowLemmas
 pub mod ShelfLemmas
 pub mod TotalsLemmas
 pub mod SpanLemmas
+pub mod FrontLemmas
+pub mod RoomLemmas

@@ -17,6 +17,7 @@ use Rattle.tm_items.proofs.Fronts.{front-none, front-some, header-none, header-s
 use Rattle.tm_devices.specs.Devices.{raised}
 use Rattle.tm_faults.specs.declared.run.RunFault.{RunFault}
 use Rattle.tm_faults.specs.declared.run.RunFault.TheVariants.{Write}
+use Rattle.tm_output.proofs.FrontLemmas.{front_taken}
 use Rattle.tm_output.specs.Outputs.{PutsPart, SameCounts, Buffering, view}
 use Rattle.tm_packet.specs.Merge.{Entries}
 use Rattle.tm_output.specs.Pieces.{Texts, noted, noted_all, piece_of}
@@ -75,6 +76,11 @@ placed-append seen channel place (p ∷ ps) qs =
 -- they have so many octets
 first-length : (limit : ℕ) (span : Span) (packets : List (List ℕ)) (many : ℕ) → AreFirst limit span packets many → length (octets_of packets) ≡ many
 first-length limit span packets many first = ap length first.octets ∙ length-take-le many span.octets.now first.inside
+
+-- the front of those octets alone is these packets
+pub first-alone : (limit : ℕ) (span : Span) (packets : List (List ℕ)) (many : ℕ) → AreFirst limit span packets many
+    → front_packets limit (take many span.octets.now) ≡ packets
+first-alone limit span packets many first = ap (front_packets limit) (sym first.octets) ∙ front_taken limit span.octets.now packets _ first.front
 
 -- ---- that add nothing to the report
 

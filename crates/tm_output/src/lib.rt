@@ -2,6 +2,7 @@
 #![tactic(auto)]
 
 mod command;
+mod front;
 mod outlet;
 mod output;
 mod totals;

@@ -1,17 +1,17 @@
 //! Where packets go: their octets into a drain or a shelf, or a line or a row for each into a drain.
 
-ghost use Rattle.std.specs.Prelude.{◌≡◌, ◌≢◌, ◌++◌, ◌==◌, [], ℕ, Bool, true, false, List, Option, OnOk, OnErr, IfErr, IfOk, length, refl};
+ghost use Rattle.std.specs.Prelude.{◌≡◌, ◌≢◌, ◌+◌, ◌^◌, ◌<◌, ◌≤◌, ◌++◌, ◌==◌, [], ℕ, Bool, true, false, List, Option, OnOk, OnErr, IfErr, IfOk, length, take, refl};
 ghost use Rattle.std.specs.List.{flat_map};
 ghost use Rattle.std.specs.Io.KnownBytes.{Appends, Keeps};
 ghost use Rattle.std.proofs.KnownBytes.{Appends-nil, Appends-trans};
 ghost use Rattle.tm_items.specs.Among.{is_packet_item};
 ghost use Rattle.tm_items.specs.Item.{Item};
-ghost use Rattle.tm_items.specs.Fronts.{octets_of, placed};
-ghost use Rattle.tm_devices.specs.Devices.{AppendsPrefix, CountsFailures, raised};
+ghost use Rattle.tm_items.specs.Fronts.{front_items, front_packets, octets_of};
+ghost use Rattle.tm_devices.specs.Devices.{AppendsPrefix, CountsFailures};
 ghost use Rattle.tm_output.specs.FieldRows.{is_of_other, tabled};
 ghost use Rattle.tm_output.specs.Packets.{HasHeader, item_with};
-ghost use Rattle.tm_output.specs.code.Outlets.{GivesNone, PutStopped, appends_split, binary_none, listed_none, octets_joined, octets_none, packet_none};
-ghost use Rattle.tm_output.specs.code.Quiet.{AreJoined, outs_of, span_items};
+ghost use Rattle.tm_output.specs.code.Outlets.{GivesNone, PutStopped, appends_split, binary_none, listed_none, octets_none, packet_none};
+ghost use Rattle.tm_output.specs.code.Quiet.{AreJoined, outs_of};
 ghost use Rattle.tm_output.specs.Outputs.{FixedDrain, PutsPart, Buffering, lines_buffering, octets_buffering};
 ghost use Rattle.tm_output.specs.Pieces.{HasLine, Texts, binary_packet, listed, no_remark, packet_lead, packet_octets};
 ghost use Rattle.tm_output.specs.Totals.{is_some_text};
@@ -19,6 +19,7 @@ ghost use Rattle.tm_output.specs.code.ShelfLaws.{no_shelf, shelves_nil, shelves_
 ghost use Rattle.tm_output.specs.Shelves.{Shelved, Shelves, shelf_text, shelf_buffering};
 
 use crate::Packet;
+use crate::front::{first_packet, span_from};
 use std::alloc::AllocError;
 use tm_devices::{DeviceFailed, Drain, Shelf, write_all};
 use tm_faults::RunFault;
@@ -95,12 +96,6 @@ pub trait Outlet {
         ensures failed { OnErr result (Self.buffering.flush ≡ true) }
         ensures counts { CountsFailures (Self.failures self.old) (Self.failures self.new) result };
 
-    /// Packets that lie end to end may be put at once.
-    ghost can_join: { Bool };
-
-    fn can_join(&self) -> bool
-        ensures { result ≡ can_join };
-
     /// A packet may be put at once with those beside it.
     ghost joins: { Fixed → Item → Bool };
 
@@ -108,23 +103,21 @@ pub trait Outlet {
         requires { HasHeader packet.now }
         ensures { result ≡ Self.joins (Self.fixed self.now) (item_with packet.now) };
 
-    /// Writes at once what belongs here for the packets of a span, if the outlet joins them, and answers whether it did. If not, nothing
-    /// changes.
-    fn write_span(&mut self, span: Span<'_>) -> Result<bool, DeviceFailed>
+    /// Whether a packet may be put at once with others. Where this is false, none may.
+    fn can_join(&self) -> bool
+        ensures { result ≡ false → (x : Item) → Self.joins (Self.fixed self.now) x ≡ false };
+
+    /// Writes at once what belongs here for the packets of a span, which lie there end to end.
+    fn write_span(&mut self, limit: usize, span: Span<'_>) -> Result<(), DeviceFailed>
+        requires places { span.place + length span.octets.now < 2 ^ 16 }
+        requires packets { octets_of (front_packets limit span.octets.now) ≡ span.octets.now }
+        requires joined { AreJoined (Self.joins (Self.fixed self.old)) (front_items limit span) }
         ensures same { Self.fixed self.new ≡ Self.fixed self.old }
-        ensures joined { IfOk result (λ put. put ≡ Self.can_join) }
-        ensures whole { IfOk result (λ put. put ≡ true
-            → ((packets : List (List ℕ)) → octets_of packets ≡ span.entry.octets.now
-            → AreJoined (Self.joins (Self.fixed self.old)) (span_items span.entry packets)
-            → Self.grows (Self.held self.old) (Self.held self.new)
-            (outs_of (Self.text (Self.fixed self.old)) (span_items span.entry packets)))
-            × (Self.failures self.new ≡ Self.failures self.old)) }
-        ensures apart { IfOk result (λ put. put ≡ false → self.new ≡ self.old) }
-        ensures stopped { OnErr result ((Self.failures self.new ≡ raised (Self.failures self.old))
-            × ((packets : List (List ℕ)) → octets_of packets ≡ span.entry.octets.now
-            → AreJoined (Self.joins (Self.fixed self.old)) (span_items span.entry packets)
-            → PutsPart Self.grows (Self.held self.old) (Self.held self.new)
-            (outs_of (Self.text (Self.fixed self.old)) (span_items span.entry packets)))) };
+        ensures whole { OnOk result (Self.grows (Self.held self.old) (Self.held self.new)
+            (outs_of (Self.text (Self.fixed self.old)) (front_items limit span.entry))) }
+        ensures part { OnErr result (PutsPart Self.grows (Self.held self.old) (Self.held self.new)
+            (outs_of (Self.text (Self.fixed self.old)) (front_items limit span.entry))) }
+        ensures counts { CountsFailures (Self.failures self.old) (Self.failures self.new) result };
 
     /// An item that has a line gives nothing to the outlet, and nothing more to the report.
     ghost text_none: { (f : Fixed) (x : Item) → HasLine x → GivesNone (text f) x };
@@ -144,7 +137,7 @@ pub trait PacketText {
     /// The text of an item.
     ghost text: { Item → List ℕ };
 
-    /// Packets that lie end to end may be put at once.
+    /// Packets may be put at once with those beside them.
     ghost can_join: { Bool };
 
     fn can_join(&self) -> bool
@@ -159,12 +152,25 @@ pub trait PacketText {
             (text (item_with packet.now))) }
         ensures counts { CountsFailures (W.failures out.old) (W.failures out.new) result };
 
+    /// Writes the texts of the packets of a span, which lie there end to end, whole or a part of them.
+    fn write_span<W: Drain>(
+        &mut self,
+        out: &mut W,
+        limit: usize,
+        span: Span<'_>,
+    ) -> Result<(), DeviceFailed>
+        requires places { span.place + length span.octets.now < 2 ^ 16 }
+        requires packets { octets_of (front_packets limit span.octets.now) ≡ span.octets.now }
+        requires joined { AreJoined (λ _. can_join) (front_items limit span) }
+        ensures same { W.fixed out.new ≡ W.fixed out.old }
+        ensures whole { OnOk result (Appends (W.written out.old) (W.written out.new)
+            (flat_map text (front_items limit span.entry))) }
+        ensures prefix { OnErr result (AppendsPrefix (W.written out.old) (W.written out.new)
+            (flat_map text (front_items limit span.entry))) }
+        ensures counts { CountsFailures (W.failures out.old) (W.failures out.new) result };
+
     /// An item that has a line has no text here.
     ghost text_none: { (x : Item) → HasLine x → text x ≡ [] };
-
-    /// Where packets may be put at once, their texts are the octets in which they lie.
-    ghost text_joined: { can_join ≡ true → (seen channel place : ℕ) (packets : List (List ℕ))
-        → flat_map text (placed seen channel place packets) ≡ octets_of packets };
 }
 
 /// A packet's own octets.
@@ -178,8 +184,6 @@ impl PacketText for PacketOctets {
 
     ghost text_none = { octets_none };
 
-    ghost text_joined = { λ _. octets_joined };
-
     fn can_join(&self) -> bool {
         true
     }
@@ -188,6 +192,16 @@ impl PacketText for PacketOctets {
     #[tactic(auto, unfolding(crate::specs::Pieces::packet_octets))]
     fn write<W: Drain>(&mut self, out: &mut W, packet: &Packet<'_>) -> Result<(), DeviceFailed> {
         write_all(out, packet.octets)
+    }
+
+    #[inline(always)]
+    fn write_span<W: Drain>(
+        &mut self,
+        out: &mut W,
+        _limit: usize,
+        span: Span<'_>,
+    ) -> Result<(), DeviceFailed> {
+        write_all(out, span.octets)
     }
 }
 
@@ -199,15 +213,11 @@ pub struct PacketLines {
 }
 
 impl PacketText for PacketLines {
-    ghost use Rattle.std.proofs.lemmas.Bool.{false≢true};
-
     ghost text = { listed };
 
     ghost can_join = { false };
 
     ghost text_none = { listed_none };
-
-    ghost text_joined = { λ joins. absurd (false≢true joins) };
 
     fn can_join(&self) -> bool {
         false
@@ -218,6 +228,15 @@ impl PacketText for PacketLines {
     fn write<W: Drain>(&mut self, out: &mut W, packet: &Packet<'_>) -> Result<(), DeviceFailed> {
         format_packet(&mut self.line, packet);
         write_all(out, self.line.as_slice())
+    }
+
+    fn write_span<W: Drain>(
+        &mut self,
+        _out: &mut W,
+        _limit: usize,
+        _span: Span<'_>,
+    ) -> Result<(), DeviceFailed> {
+        Ok(())
     }
 }
 
@@ -237,23 +256,36 @@ fn packet_lead(packet: &Packet<'_>) -> [u8; 16]
     ]
 }
 
+// How many octets are put together before they are written: as many as the packets of most data fields have with their leads.
+const ROOM: usize = 2048;
+
+// Puts a packet with its lead into a room, after the octets that it has, and answers how many they are then.
+#[inline(always)]
+fn put_packet(room: &mut [u8], filled: usize, packet: &Packet<'_>) -> usize
+    requires { filled + (16 + length packet.now.octets.now) ≤ length room.old }
+    ensures filled { result ≡ filled + (16 + length packet.now.octets.now) }
+    ensures put { take result room.new ≡ take filled room.old ++ binary_packet (item_with packet.now) }
+{
+    let begin = filled + 16;
+    let end = begin + packet.octets.len();
+    room[filled..begin].copy_from_slice(&packet_lead(packet));
+    room[begin..end].copy_from_slice(packet.octets);
+    end
+}
+
 /// A packet's octets in the binary form, after those that tell where it was found.
 #[derive(Drop)]
 pub struct BinaryPackets;
 
 impl PacketText for BinaryPackets {
-    ghost use Rattle.std.proofs.lemmas.Bool.{false≢true};
-
     ghost text = { binary_packet };
 
-    ghost can_join = { false };
+    ghost can_join = { true };
 
     ghost text_none = { binary_none };
 
-    ghost text_joined = { λ joins. absurd (false≢true joins) };
-
     fn can_join(&self) -> bool {
-        false
+        true
     }
 
     #[inline(always)]
@@ -263,6 +295,36 @@ impl PacketText for BinaryPackets {
             return Err(fault);
         }
         match write_all(out, packet.octets) {
+            Ok(()) => Ok(()),
+            Err(fault) => Err(fault),
+        }
+    }
+
+    // It fills a room with packets, and writes that once the next has no room.
+    fn write_span<W: Drain>(
+        &mut self,
+        out: &mut W,
+        limit: usize,
+        span: Span<'_>,
+    ) -> Result<(), DeviceFailed> {
+        let mut room = [0; ROOM];
+        let mut filled = 0;
+        let mut at = 0;
+        while let Some(packet) = first_packet(limit, span_from(span, at)) {
+            if ROOM - filled < 16 + packet.octets.len() {
+                if let Err(fault) = write_all(out, &room[..filled]) {
+                    return Err(fault);
+                }
+                filled = 0;
+                if let Err(fault) = self.write(out, &packet) {
+                    return Err(fault);
+                }
+            } else {
+                filled = put_packet(&mut room, filled, &packet);
+            }
+            at += packet.octets.len();
+        }
+        match write_all(out, &room[..filled]) {
             Ok(()) => Ok(()),
             Err(fault) => Err(fault),
         }
@@ -298,8 +360,6 @@ impl<W: Drain, T: PacketText> Outlet for PacketTexts<'_, W, T> {
     ghost buffering = { octets_buffering };
 
     ghost passed = { λ o. Keeps (W.flushed o.out.now) (W.written o.out.now) };
-
-    ghost can_join = { T.can_join };
 
     ghost joins = { λ _ _. T.can_join };
 
@@ -343,14 +403,9 @@ impl<W: Drain, T: PacketText> Outlet for PacketTexts<'_, W, T> {
         self.text.can_join()
     }
 
-    fn write_span(&mut self, span: Span<'_>) -> Result<bool, DeviceFailed> {
-        if !self.text.can_join() {
-            return Ok(false);
-        }
-        match write_all(self.out, span.octets) {
-            Ok(()) => Ok(true),
-            Err(fault) => Err(fault),
-        }
+    #[inline(always)]
+    fn write_span(&mut self, limit: usize, span: Span<'_>) -> Result<(), DeviceFailed> {
+        self.text.write_span(self.out, limit, span)
     }
 }
 
@@ -417,8 +472,6 @@ impl<H: Shelf> Outlet for PacketShelf<'_, H> {
         Ok(())
     }
 
-    ghost can_join = { false };
-
     ghost joins = { λ _ _. false };
 
     fn can_join(&self) -> bool {
@@ -429,8 +482,8 @@ impl<H: Shelf> Outlet for PacketShelf<'_, H> {
         false
     }
 
-    fn write_span(&mut self, _span: Span<'_>) -> Result<bool, DeviceFailed> {
-        Ok(false)
+    fn write_span(&mut self, _limit: usize, _span: Span<'_>) -> Result<(), DeviceFailed> {
+        Ok(())
     }
 }
 
@@ -583,8 +636,6 @@ impl<W: Drain> Outlet for PacketRows<'_, '_, '_, W> {
     }
 
     // Packets of other applications have no row, so they are put by writing nothing.
-    ghost can_join = { true };
-
     ghost joins = { λ f. is_of_other f.application };
 
     fn can_join(&self) -> bool {
@@ -596,7 +647,7 @@ impl<W: Drain> Outlet for PacketRows<'_, '_, '_, W> {
         packet.header.application() != self.application
     }
 
-    fn write_span(&mut self, _span: Span<'_>) -> Result<bool, DeviceFailed> {
-        Ok(true)
+    fn write_span(&mut self, _limit: usize, _span: Span<'_>) -> Result<(), DeviceFailed> {
+        Ok(())
     }
 }

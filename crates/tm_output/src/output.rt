@@ -17,12 +17,13 @@ ghost use Rattle.tm_output.specs.code.Sinking.{CountsItem, NotesItem, Refuses, T
 ghost use Rattle.tm_output.specs.Seen.{OutputState, fixture, output_both, output_state};
 
 use crate::Packet;
+use crate::front::{first_packet, span_from};
 use crate::outlet::{Outlet, copy_of};
 use crate::totals::Totals;
 use std::alloc::AllocError;
 use tm_devices::{Drain, write_all};
 use tm_faults::RunFault;
-use tm_items::{Item, Sink, Span, whole_packet};
+use tm_items::{Item, Sink, Span};
 use tm_lines::{
     DroppedPart, LineBuffer, format_bad, format_drop, format_gap, format_master_gap, format_note,
     format_short, format_vca,
@@ -174,40 +175,6 @@ fn note_packet(
     push_notes(lines, packet.seen, packet.channel, application, &notes)
 }
 
-// A span from an octet on.
-#[inline(always)]
-fn span_from(span: Span<'_>, at: usize) -> Span<'_>
-    requires inside { at ≤ length span.octets.now }
-    requires places { span.place + length span.octets.now < 2 ^ 16 }
-    ensures rest { result ≡ record span.entry { place = span.entry.place + at; octets = result.octets } }
-    ensures octets { result.octets.now ≡ drop at span.entry.octets.now }
-{
-    Span {
-        place: span.place + at as u16,
-        octets: &span.octets[at..],
-        ..span
-    }
-}
-
-// The packet at the front of a span, if one of at most `limit` octets lies whole there.
-#[inline(always)]
-fn first_packet(limit: usize, span: Span<'_>) -> Option<Packet<'_>>
-    ensures some { IfSome result (IsFirstPacket limit span.entry) }
-    ensures none { result ≡ None → front_packets limit span.entry.octets.now ≡ [] }
-{
-    match whole_packet(limit, span.octets) {
-        Some(header) => Some(Packet {
-            seen: span.seen,
-            channel: span.channel,
-            first: span.seen,
-            place: span.place,
-            header,
-            octets: &span.octets[..header.length() as usize],
-        }),
-        None => None,
-    }
-}
-
 // Takes note of a packet if the report says nothing of it, as of most, and answers whether it says nothing.
 #[inline(always)]
 #[tactic(auto, unfolding(crate::specs::Pieces::noted))]
@@ -327,9 +294,8 @@ impl<O: Outlet, V: Drain> Output<'_, O, V> {
             octets: &span.octets[..quiet],
             ..span
         };
-        match self.outlet.write_span(front) {
-            Ok(true) => Ok((quiet, ended)),
-            Ok(false) => unreachable!(),
+        match self.outlet.write_span(limit, front) {
+            Ok(()) => Ok((quiet, ended)),
             Err(_) => Err(RunFault::Write),
         }
     }

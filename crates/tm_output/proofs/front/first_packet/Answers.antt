@@ -1,6 +1,6 @@
 use Rattle.std.proofs.Common.{refl, ◌∙◌, append-nil}
 use Rattle.tm_output.proofs.SpanLemmas.{front_is}
-use Rattle.tm_output.proofs.output.first_packet.Goals as goal
+use Rattle.tm_output.proofs.front.first_packet.Goals as goal
 
 pub slice_bounds-result-end : goal.slice_bounds-result-end
 slice_bounds-result-end c = (front_is c.args.limit c.length.result c.args.span.octets.now c.in-Some.header c.in-Some.ensures c.length.ensures).whole

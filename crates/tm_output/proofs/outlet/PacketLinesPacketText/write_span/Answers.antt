@@ -1,0 +1,6 @@
+use Rattle.std.proofs.KnownBytes.{Appends-nil}
+use Rattle.tm_output.proofs.RowLemmas.{none_joined}
+use Rattle.tm_output.proofs.outlet.PacketLinesPacketText.write_span.Goals as goal
+
+pub returns-clause-whole : goal.returns-clause-whole
+returns-clause-whole g c = rw (none_joined _ c.requires.joined) (Appends-nil _)

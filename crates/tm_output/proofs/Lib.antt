@@ -1,5 +1,4 @@
 pub mod RecordLemmas
-pub mod LeadLemmas
 pub mod LinePieces
 pub mod PieceLemmas
 pub mod PacketLemmas

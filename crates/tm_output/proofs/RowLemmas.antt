@@ -61,8 +61,3 @@ some_tabled form fields wanted seen channel first place octets h is test long no
 pub some_short_packet : (seen channel first place needed found : ℕ) → short_packet_line seen channel first place needed found ≢ []
 unfolding short_packet_line
 some_short_packet seen channel first place needed found e = cc
-
--- where no packet may be put with others, there is none
-pub none_joined : (xs : List Item) → AreJoined (λ _. false) xs → xs ≡ []
-none_joined [] joined = refl
-none_joined (x ∷ xs) joined = absurd (false≢true joined.0)

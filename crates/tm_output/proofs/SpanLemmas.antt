@@ -2,7 +2,7 @@
 use Rattle.std.proofs.Common.{◌≡◌, ◌≢◌, ℕ, Bool, false, true, ◌+◌, ◌-◌, ◌<◌, ◌≤◌, Some, None, List, [], ◌∷◌, ◌++◌, length, take, drop, refl, sym, ap, subst, ◌∙◌, append-nil, append_assoc, length-append, arith, inl, inr, ⊎_elim}
 use Rattle.std.specs.Borrow.{Bor}
 use Rattle.std.proofs.KnownBytes.{Appends-nil}
-use Rattle.std.proofs.lemmas.Bool.{cases_lt}
+use Rattle.std.proofs.lemmas.Bool.{cases_lt, false≢true}
 use Rattle.std.proofs.lemmas.List.{drop-append-le, drop-drop, drop_at, length-drop, length-take-le, take-append-drop, take-append-le, take_at}
 use Rattle.std.proofs.Math.Seq.{take-add}
 use Rattle.tm_packet.specs.Header.{Fields, packet_header_of}
@@ -96,6 +96,11 @@ quiet_more text entries (y ∷ ys) x quiet none = (quiet.0, quiet_more text (not
 joined_more : (joins : Item → Bool) (xs : List Item) (x : Item) → AreJoined joins xs → joins x ≡ true → AreJoined joins (xs ++ x ∷ [])
 joined_more joins [] x joined one = (one, tt)
 joined_more joins (y ∷ ys) x joined one = (joined.0, joined_more joins ys x joined.1 one)
+
+-- where no packet may be put with others, there is none
+pub none_joined : (xs : List Item) → AreJoined (λ _. false) xs → xs ≡ []
+none_joined [] joined = refl
+none_joined (x ∷ xs) joined = absurd (false≢true joined.0)
 
 module _ {A : Type 0} (text : Texts A) (joins : Item → Bool) (limit : ℕ) (old : Entries) (totals : Totals) (span : Span) where
   pub noted_none : HasNoted text joins limit old old totals totals span 0

@@ -7,7 +7,6 @@ use Rattle.tm_fields.specs.declared.field.Field.{Field}
 use Rattle.tm_fields.specs.declared.rows.RowForm.{RowForm}
 use Rattle.tm_fields.specs.declared.rows.RowForm.TheVariants.{Text, Binary}
 use Rattle.tm_items.specs.Item.{Item, Bad, MasterGap, Gap, Vca, Dropped, Packet, Short}
-use Rattle.tm_items.specs.Fronts.{octets_of, placed}
 use Rattle.tm_devices.specs.Devices.{raised}
 use Rattle.tm_output.specs.declared.command.Command.{Command}
 use Rattle.tm_output.specs.declared.command.Command.TheVariants.{Extract, Packets, Fields, BinaryPackets, BinaryFields}
@@ -100,12 +99,6 @@ no_text Packets x has = (listed_none x has, refl, packet_none x has)
 no_text (Fields definition application) x has = no_row Text definition.now application x has
 no_text BinaryPackets x has = (binary_none x has, refl, packet_none x has)
 no_text (BinaryFields definition application) x has = no_row Binary definition.now application x has
-
--- packets that lie end to end give the octets in which they lie
-pub octets_joined : (seen channel place : ℕ) (packets : List (List ℕ)) → flat_map packet_octets (placed seen channel place packets) ≡ octets_of packets
-unfolding packet_octets
-octets_joined seen channel place [] = refl
-octets_joined seen channel place (p ∷ ps) = ap (λ (l : List ℕ). p ++ l) (octets_joined seen channel (place + length p) ps)
 
 -- octets that are added at once may be added in two steps
 pub appends_split : (j l : Option (List ℕ)) (xs ys : List ℕ) → Appends j l (xs ++ ys) → (k : Option (List ℕ)) × Appends j k xs × Appends k l ys

@@ -1,6 +1,6 @@
-use Rattle.std.proofs.Common.{length}
-use Rattle.std.proofs.KnownBytes.{Appends-trans}
-use Rattle.tm_output.proofs.LeadLemmas.{prefix_behind_lead, prefix_of_lead}
+use Rattle.std.proofs.Common.{[], ◌++◌, ap, append-nil, length, refl, sym}
+use Rattle.std.proofs.KnownBytes.{Appends-nil, Appends-trans}
+use Rattle.tm_output.proofs.RoomLemmas.{stopped_in}
 use Rattle.tm_output.specs.Pieces.{binary_packet, packet_lead}
 use Rattle.tm_output.proofs.outlet.BinaryPacketsPacketText.write.Goals as goal
 
@@ -9,7 +9,7 @@ unfolding binary_packet
 returns-in-Err-clause-prefix g c =
     let p = c.args.packet.now in
     let lead = packet_lead p.seen p.channel p.first p.place (length p.octets.now) in
-    prefix_of_lead _ _ lead p.octets.now (λ e. cc e) (rw c.packet_lead.ensures at c.in-Err.ensures.prefix)
+    stopped_in _ _ _ [] lead p.octets.now _ refl (λ e. cc e) (Appends-nil _) (rw c.packet_lead.ensures at c.in-Err.ensures.prefix)
 
 pub returns-in-Ok-clause-whole : goal.returns-in-Ok-clause-whole
 unfolding binary_packet
@@ -20,4 +20,5 @@ unfolding binary_packet
 returns-in-Err-write_all-clause-prefix g c =
     let p = c.args.packet.now in
     let lead = packet_lead p.seen p.channel p.first p.place (length p.octets.now) in
-    prefix_behind_lead _ _ _ lead p.octets.now c.in-Err-write_all.ensures.some (rw c.packet_lead.ensures at c.in_default.ensures.whole) c.in-Err-write_all.ensures.prefix
+    stopped_in _ _ _ lead p.octets.now [] _ (ap (λ l. lead ++ l) (sym (append-nil p.octets.now))) c.in-Err-write_all.ensures.some
+    (rw c.packet_lead.ensures at c.in_default.ensures.whole) c.in-Err-write_all.ensures.prefix

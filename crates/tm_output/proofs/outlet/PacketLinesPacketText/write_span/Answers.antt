@@ -1,5 +1,5 @@
 use Rattle.std.proofs.KnownBytes.{Appends-nil}
-use Rattle.tm_output.proofs.RowLemmas.{none_joined}
+use Rattle.tm_output.proofs.SpanLemmas.{none_joined}
 use Rattle.tm_output.proofs.outlet.PacketLinesPacketText.write_span.Goals as goal
 
 pub returns-clause-whole : goal.returns-clause-whole

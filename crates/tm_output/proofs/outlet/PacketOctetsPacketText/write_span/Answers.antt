@@ -1,7 +1,14 @@
-use Rattle.std.proofs.Common.{◌∙◌}
-use Rattle.tm_items.specs.Fronts.{front_packets}
-use Rattle.tm_output.specs.code.Outlets.{octets_joined}
+use Rattle.std.proofs.Common.{◌≡◌, ℕ, ◌+◌, List, [], ◌∷◌, ◌++◌, ap, length, refl, ◌∙◌}
+use Rattle.std.specs.List.{flat_map}
+use Rattle.tm_items.specs.Fronts.{front_packets, octets_of, placed}
+use Rattle.tm_output.specs.Pieces.{packet_octets}
 use Rattle.tm_output.proofs.outlet.PacketOctetsPacketText.write_span.Goals as goal
+
+-- packets that lie end to end give the octets in which they lie
+octets_joined : (seen channel place : ℕ) (packets : List (List ℕ)) → flat_map packet_octets (placed seen channel place packets) ≡ octets_of packets
+unfolding packet_octets
+octets_joined seen channel place [] = refl
+octets_joined seen channel place (p ∷ ps) = ap (λ (l : List ℕ). p ++ l) (octets_joined seen channel (place + length p) ps)
 
 pub returns-clause-whole : goal.returns-clause-whole
 returns-clause-whole g c =

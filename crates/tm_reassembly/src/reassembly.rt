@@ -109,6 +109,7 @@ impl Reassembly {
     /// `Failed` where an earlier step was refused by its sink; else `TooMany` where 2^32 - 1 records are done; both change nothing. Else
     /// `Sink` where the sink refused an item: it then has taken the items before that one, each later step is `Failed`, and the number of
     /// records stays.
+    #[inline(always)]
     pub fn step_record<S: Sink>(
         &mut self,
         octets: &[u8],
@@ -122,11 +123,20 @@ impl Reassembly {
         ensures refused { IfErr result (StepRefused S.known S.takes S.refuses self.old self.new sink.old sink.new
             (step_items self.old octets.now)) }
     {
-        let layout = self.rules.layout;
-        self.step_frame(read(&layout, octets), octets, sink)
+        let reading = self.read(octets);
+        self.step_frame(reading, octets, sink)
     }
 
-    /// Takes the next record as `step_record` does, where its octets are read already.
+    /// Reads the octets of a record: the good frame, or the first fault that applies.
+    #[inline(always)]
+    pub fn read<'r>(&self, octets: &'r [u8]) -> Result<Frame<'r>, FrameFault>
+        requires { length octets.now ≡ record_length_of self.now.rules.layout }
+        ensures { result ≡ frame_reading_of self.now.rules.layout octets.now }
+    {
+        read(&self.rules.layout, octets)
+    }
+
+    /// Takes the next record as `step_record` does, where `read` has read its octets already.
     ///
     /// # Errors
     ///

@@ -1,6 +1,6 @@
 //! A line for each frame of a recording.
 
-ghost use Rattle.std.specs.Prelude.{◌≡◌, ◌≤◌, ◌<◌, ◌∷◌, [], length, IfOk, OnOk, OnErr};
+ghost use Rattle.std.specs.Prelude.{◌≡◌, ◌≤◌, ◌<◌, ◌∷◌, [], length, is_ok, IfOk, OnOk, OnErr};
 ghost use Rattle.std.specs.Io.KnownBytes.{Appends, Keeps};
 ghost use Rattle.tm_frame.specs.Layout.{record_length_of};
 ghost use Rattle.tm_tool.specs.Courses.{HasEnded};
@@ -19,18 +19,25 @@ use tm_devices::write_all;
 use tm_frame::{Frame, FrameFault, Layout, read};
 use tm_lines::{LineBuffer, format_bad, format_frame, format_short};
 
-/// Makes the line of a record that reads so.
+/// Makes the line of a record that reads so. Answers whether it is a good frame.
 #[inline(always)]
 pub(crate) fn make_reading_line(
     line: &mut LineBuffer,
     seen: u32,
     reading: &Result<Frame<'_>, FrameFault>,
-)
-    ensures { line.new ≡ reading_line seen reading.now }
+) -> bool
+    ensures line { line.new ≡ reading_line seen reading.now }
+    ensures good { result ≡ is_ok reading.now }
 {
     match reading {
-        Ok(frame) => format_frame(line, seen, frame),
-        Err(fault) => format_bad(line, seen, *fault),
+        Ok(frame) => {
+            format_frame(line, seen, frame);
+            true
+        }
+        Err(fault) => {
+            format_bad(line, seen, *fault);
+            false
+        }
     }
 }
 
@@ -42,9 +49,7 @@ fn make_record_line(line: &mut LineBuffer, layout: &Layout, seen: u32, octets: &
     ensures line { line.new ≡ record_line layout.now seen octets.now }
     ensures good { result ≡ is_good_record layout.now octets.now }
 {
-    let reading = read(layout, octets);
-    make_reading_line(line, seen, &reading);
-    reading.is_ok()
+    make_reading_line(line, seen, &read(layout, octets))
 }
 
 // Writes the line of a record, of any channel. Answers whether it is a good frame. Where a write failed, a prefix of the line is written.

@@ -19,7 +19,6 @@ use crate::record_loop::{RecordHandler, handle_records};
 use crate::recording::{absent_channels, end, handle_frame};
 use crate::{BufferedSource, Drain, Ending, RunFault};
 use tm_devices::write_all;
-use tm_frame::read;
 use tm_lines::LineBuffer;
 use tm_output::{Outlet, Output, PacketOctets, PacketTexts, Totals};
 use tm_packet::Tracker;
@@ -69,9 +68,8 @@ impl<O: Outlet, V: Drain, W: Drain> RecordHandler for ListingRun<'_, '_, O, V, W
     // The run takes the record first, so that nothing of its line is written where memory runs out.
     #[tactic(auto, unfolding(crate::specs::Listing::record_line))]
     fn handle_record(&mut self, progress: &mut Reassembly, octets: &[u8]) -> Result<(), RunFault> {
-        let layout = progress.layout();
-        let reading = read(&layout, octets);
-        make_reading_line(&mut self.line, progress.records(), &reading);
+        let reading = progress.read(octets);
+        let _good = make_reading_line(&mut self.line, progress.records(), &reading);
         let mut output = Output {
             tracker: self.tracker,
             notes: self.notes,

@@ -19,7 +19,7 @@ ghost use Rattle.tm_output.specs.Seen.{fixture, output_both};
 use crate::extractor::Extractor;
 use crate::record_loop::{RecordHandler, handle_records};
 use crate::{BufferedSource, Drain, Ending, RunFault};
-use tm_frame::{Frame, FrameFault, read};
+use tm_frame::{Frame, FrameFault};
 use tm_output::{Outlet, Output, Totals};
 use tm_reassembly::{Reassembly, StepFault};
 
@@ -82,8 +82,8 @@ impl<O: Outlet, V: Drain> RecordHandler for Output<'_, O, V> {
     }
 
     fn handle_record(&mut self, progress: &mut Reassembly, octets: &[u8]) -> Result<(), RunFault> {
-        let layout = progress.layout();
-        handle_frame(progress, read(&layout, octets), octets, self)
+        let reading = progress.read(octets);
+        handle_frame(progress, reading, octets, self)
     }
 
     fn flush_all(&mut self, _progress: &Reassembly) -> Result<(), RunFault> {

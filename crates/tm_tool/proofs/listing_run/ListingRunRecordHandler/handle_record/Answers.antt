@@ -8,5 +8,5 @@ pub returns-in-Err-write_all-clause-refused : goal.returns-in-Err-write_all-clau
 unfolding record_line
 returns-in-Err-write_all-clause-refused g c =
     let line : c.as_slice.result.now ≡ record_line c.args.progress.now.rules.layout c.args.progress.now.state.records c.args.octets.now =
-    c.as_slice.ensures ∙ c.make_reading_line.ensures ∙ rw (c.records.ensures, c.read-reading.ensures, c.layout-layout.ensures) refl in
+    c.as_slice.ensures ∙ c.make_reading_line-good.ensures.line ∙ rw (c.records.ensures, c.read-reading.ensures) refl in
     inl (line_stopped _ {buffering = octets_buffering} (rw line at c.in-Err-write_all.ensures.prefix) c.in-Err-write_all.ensures.counts)

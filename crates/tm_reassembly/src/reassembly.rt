@@ -540,7 +540,8 @@ fn add_record<S: Sink>(
         (items rules.now (state_in_slots seen master.old states.old) (octets ∷ [])) result }
     ensures chosen { IfOk result (λ chosen. chosen ≡ is_chosen_reading rules.now reading.entry) }
     ensures left { OnOk result ((octets : List ℕ) → frame_reading_of rules.now.layout octets ≡ reading.entry
-        → state_in_slots (seen + 1) master.new states.new ≡ after rules.now (state_in_slots seen master.old states.old) (octets ∷ [])) }
+        → state_in_slots (seen + 1) master.new states.new
+        ≡ after rules.now (state_in_slots seen master.old states.old) (octets ∷ [])) }
     ensures limit { OnOk result (HaveLimit rules.now.max_packet states.new) }
 {
     match reading {

@@ -114,7 +114,8 @@ fn list_and_run<R: BufferedSource, O: Outlet, V: Drain, W: Drain>(
     ensures runs { ListingRunEnded ending (work_of reassembly.old both.old.tracker.now)
         (R.left recording.old) (R.left recording.new) (R.failures recording.old) (R.failures recording.new)
         (out_alone W.Drain both.old.out.now) (out_alone W.Drain both.new.out.now)
-        (outlet_both O.Outlet V.Drain both.old.outlet.now both.old.report.now) (outlet_both O.Outlet V.Drain both.new.outlet.now both.new.report.now)
+        (outlet_both O.Outlet V.Drain both.old.outlet.now both.old.report.now)
+        (outlet_both O.Outlet V.Drain both.new.outlet.now both.new.report.now)
         O.grows O.buffering (O.text (O.fixed both.old.outlet.now))
         (work_of reassembly.new both.new.tracker.now) result }
     ensures flushed { OnOk result (Keeps (W.flushed both.new.out.now) (W.written both.new.out.now)) }

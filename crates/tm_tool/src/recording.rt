@@ -33,13 +33,16 @@ pub(crate) fn handle_frame<O: Outlet, V: Drain>(
 ) -> Result<(), RunFault>
     requires read { reading ≡ frame_reading_of reassembly.old.rules.layout octets.now }
     requires ready { IsGoing reassembly.old }
-    ensures same { run_fixture O.Outlet V.Drain reassembly.new output.new ≡ run_fixture O.Outlet V.Drain reassembly.old output.old }
+    ensures same { run_fixture O.Outlet V.Drain reassembly.new output.new
+        ≡ run_fixture O.Outlet V.Drain reassembly.old output.old }
     ensures ready { OnOk result (IsGoing reassembly.new) }
     ensures counted { OnOk result (reassembly.new.state.records ≡ reassembly.old.state.records + 1) }
     ensures taken { OnOk result (TakesRecords O.grows (O.text (O.fixed output.old.outlet.now))
-        (run_state O.Outlet V.Drain reassembly.old output.old) (octets.now ∷ []) (run_state O.Outlet V.Drain reassembly.new output.new)) }
+        (run_state O.Outlet V.Drain reassembly.old output.old) (octets.now ∷ [])
+        (run_state O.Outlet V.Drain reassembly.new output.new)) }
     ensures refused { IfErr result (RefusesRecord O.grows (O.text (O.fixed output.old.outlet.now)) O.buffering
-        (run_state O.Outlet V.Drain reassembly.old output.old) octets.now (run_state O.Outlet V.Drain reassembly.new output.new)) }
+        (run_state O.Outlet V.Drain reassembly.old output.old) octets.now
+        (run_state O.Outlet V.Drain reassembly.new output.new)) }
 {
     match reassembly.step_frame(reading, octets, output) {
         Ok(chosen) => {

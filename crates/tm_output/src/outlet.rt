@@ -259,9 +259,9 @@ fn packet_lead(packet: &Packet<'_>) -> [u8; 16]
 // How many octets are put together before they are written: as many as the packets of most data fields have with their leads.
 const ROOM: usize = 2048;
 
-// Puts a packet with its lead into a room, after the octets that it has, and answers how many they are then.
+// Appends a packet with its lead to the octets that a room has, and answers how many they are then.
 #[inline(always)]
-fn put_packet(room: &mut [u8], filled: usize, packet: &Packet<'_>) -> usize
+fn append_packet(room: &mut [u8], filled: usize, packet: &Packet<'_>) -> usize
     requires { filled + (16 + length packet.now.octets.now) ≤ length room.old }
     ensures filled { result ≡ filled + (16 + length packet.now.octets.now) }
     ensures put { take result room.new ≡ take filled room.old ++ binary_packet (item_with packet.now) }
@@ -342,7 +342,7 @@ impl PacketText for BinaryPackets {
                     return Err(fault);
                 }
             } else {
-                filled = put_packet(room, filled, &packet);
+                filled = append_packet(room, filled, &packet);
             }
             at += packet.octets.len();
         }

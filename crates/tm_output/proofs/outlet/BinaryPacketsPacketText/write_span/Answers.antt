@@ -44,7 +44,7 @@ loop-packet-preserved g c =
             counts = rw w.out-is inv.counts;
             inside = omega (arith, head.first.inside, far, inv.inside);
             room = omega (arith, inv.room);
-            partly = rw (w.out-is, w.room-is, w.filled-is) (part_put inv.partly _ _ _ _ next w.put_packet-filled.ensures.put);
+            partly = rw (w.out-is, w.room-is, w.filled-is) (part_put inv.partly _ _ _ _ next w.append_packet-filled.ensures.put);
           }
     ]
 

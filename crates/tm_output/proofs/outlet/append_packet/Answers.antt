@@ -3,7 +3,7 @@ use Rattle.std.proofs.lemmas.Slice.{take-put_mid}
 use Rattle.std.proofs.lemmas.List.{length-take-le}
 use Rattle.tm_output.specs.Pieces.{binary_packet}
 use borrow.Rule.Slice.PartMut.{post_of, put_mid}
-use Rattle.tm_output.proofs.outlet.put_packet.Goals as goal
+use Rattle.tm_output.proofs.outlet.append_packet.Goals as goal
 
 -- 16 octets, and others after them
 put_both : (filled k m n : ℕ) (room first second lead octets : List ℕ) → first ≡ lead → second ≡ octets → length lead ≡ 16

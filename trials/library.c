@@ -497,9 +497,9 @@ static double feed_once(struct octets settings, struct octets recording, size_t 
 }
 
 static int fed(struct octets settings, struct octets recording, size_t size) {
-    static struct tmx_event events[65536];
-    static uint8_t packets[1 << 21];
-    struct tmx_room room = {events, 65536, packets, sizeof packets};
+    static struct tmx_event events[4096];
+    static uint8_t packets[1 << 18];
+    struct tmx_room room = {events, 4096, packets, sizeof packets};
     double least = 1e9;
     size_t calls = 0;
     for (int k = 0; k < 20; k++) {

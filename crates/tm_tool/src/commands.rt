@@ -95,7 +95,7 @@ pub(crate) fn run_command<R: BufferedSource, W: Drain, V: Drain>(
         Command::BinaryPackets => {
             let mut outlet = PacketTexts {
                 out,
-                text: BinaryPackets::new(),
+                text: BinaryPackets,
             };
             run_into(extractor, recording, &mut outlet, report, ending)
         }

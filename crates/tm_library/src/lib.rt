@@ -5,6 +5,7 @@ mod chunk;
 mod inputs;
 pub mod laws;
 mod listing;
+mod nowhere;
 mod refusal;
 mod request;
 mod running;

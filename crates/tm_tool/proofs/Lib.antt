@@ -16,4 +16,3 @@ pub mod RecordCounted
 pub mod SummaryEnds
 pub mod Counted
 pub mod DataOctets
-pub mod ListingRuns

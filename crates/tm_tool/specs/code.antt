@@ -5,4 +5,3 @@ pub mod Stepping
 pub mod Summing
 pub mod Heads
 pub mod Extractors
-pub mod ListingRuns

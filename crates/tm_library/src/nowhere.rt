@@ -1,10 +1,10 @@
 //! Where octets go that are not kept.
 
-use crate::{DeviceFailed, Drain};
+use tm_tool::{DeviceFailed, Drain};
 
 /// A drain that keeps nothing.
 #[derive(Drop)]
-pub(crate) struct Nowhere;
+pub struct Nowhere;
 
 impl Drain for Nowhere {
     ghost failures = { λ _. 0 };

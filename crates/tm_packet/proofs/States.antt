@@ -18,7 +18,7 @@ none_at key = get_or-none 16384 key
 none_fits : (e : Option PairEntry) → e ≡ None → EntryFits e
 none_fits e h = subst EntryFits (sym h) tt
 
-length-no_entries : length no_entries ≡ 16384
+pub length-no_entries : length no_entries ≡ 16384
 unfolding no_entries
 length-no_entries = length-replicate {A = Option PairEntry} 16384 None
 
@@ -28,6 +28,5 @@ valid-none = record { places = length-no_entries; fit = λ key. none_fits (entry
 pub valid_empty : (s : Entries) → s ≡ no_entries → AreValidEntries s
 valid_empty s h = rw h valid-none
 
-pub filled : (xs : Entries) (n : ℕ) → xs ≡ [] → n ≡ 0 → take 16384 xs ++ replicate (16384 - n) None ≡ no_entries
-unfolding no_entries
+pub filled : (xs : Entries) (n : ℕ) → xs ≡ [] → n ≡ 0 → take 128 xs ++ replicate (128 - n) None ≡ replicate 128 None
 filled xs n e h = rw (e, h) refl

@@ -1,14 +1,11 @@
--- The entries of blocks with marks, and walks that pass over the others.
-use Rattle.std.proofs.Common.{◌≡◌, ◌≢◌, ℕ, zero, suc, ◌+◌, ◌-◌, ◌*◌, ◌/◌, ◌<◌, ◌≤◌, Bool, true, false, Some, None, List, [], ◌∷◌, ◌++◌, length, drop, get_or, set, refl, sym, ap, ◌∙◌, arith}
-use Rattle.std.proofs.lemmas.List.{get_or-set_same, get_or-set_other}
+-- Walks over entries.
+use Rattle.std.proofs.Common.{◌≡◌, ℕ, zero, suc, ◌+◌, ◌<◌, ◌≤◌, Some, None, List, [], ◌∷◌, ◌++◌, length, drop, get_or, refl, arith}
 use Rattle.tm_packet.specs.declared.tracker.PairEntry.{PairEntry}
 use Rattle.tm_packet.specs.declared.notes.Note.TheVariants.{Broken}
 use Rattle.tm_packet.specs.declared.notes.Why.TheVariants as why
 use Rattle.tm_packet.specs.declared.tracker.Unclosed.{Unclosed}
-use Rattle.tm_packet.specs.Merge.{Entries, no_entries, unclosed, unclosed_with, next_unclosed_of}
+use Rattle.tm_packet.specs.Merge.{Entries, unclosed, unclosed_with, next_unclosed_of}
 use Rattle.tm_packet.specs.Spelling.{KeyedEntry, entries_from}
-use Rattle.tm_packet.specs.code.Blocks.{AreMarked}
-use Rattle.tm_packet.proofs.States.{none_at}
 
 some_not_none : (e : PairEntry) → Some e ≡ None → ⊥
 some_not_none e h = cc
@@ -22,7 +19,7 @@ none_here zero k (Some e ∷ s) h = absurd (some_not_none e h)
 none_here (suc at) k (x ∷ s) h = none_here at k s h
 
 -- places without an entry
-none_among : (n at : ℕ) (s : Entries) → ((i : ℕ) → i < n → get_or s (at + i) None ≡ None)
+pub none_among : (n at : ℕ) (s : Entries) → ((i : ℕ) → i < n → get_or s (at + i) None ≡ None)
     → entries_from at (drop at s) ≡ entries_from (at + n) (drop (at + n) s)
 none_among zero at s none = let z : at + 0 ≡ at = omega arith in rw z refl
 none_among (suc n) at s none =
@@ -32,47 +29,12 @@ none_among (suc n) at s none =
     rw (none_here at at s here, one, all)
     (none_among n (at + 1) s (λ i inside. let z : at + 1 + i ≡ at + suc i = omega arith in rw z (none (suc i) (omega arith))))
 
--- the rest of a block without a mark
-pub block_passed : (marks : List Bool) (s : Entries) (block at : ℕ) → AreMarked marks s → get_or marks block false ≡ false → at / 64 ≡ block
-    → entries_from at (drop at s) ≡ entries_from (64 * (block + 1)) (drop (64 * (block + 1)) s)
-block_passed marks s block at marked unmarked h =
-    let all : at + (64 * (block + 1) - at) ≡ 64 * (block + 1) = omega arith in
-    none_among (64 * (block + 1) - at) at s (λ i inside.
-    let same : (at + i) / 64 ≡ block = omega arith in
-    marked.none (at + i) (rw same unmarked))
-    ∙ ap (λ n. entries_from n (drop n s)) all
-
 -- after the last place
 pub none_after : (at k : ℕ) (s : Entries) → length s ≤ at → entries_from k (drop at s) ≡ []
 none_after zero k [] h = refl
 none_after (suc at) k [] h = refl
 none_after zero k (x ∷ s) h = absurd (omega arith)
 none_after (suc at) k (x ∷ s) h = none_after at k s (omega arith)
-
-pub marked_none : (marks : List Bool) → AreMarked marks no_entries
-marked_none marks = record { none = λ key h. none_at key }
-
-true_not_false : true ≡ false → ⊥
-true_not_false h = cc
-
--- an entry is put, and its block marked
-pub marked_put : (marks : List Bool) (s : Entries) (block key : ℕ) (e : PairEntry) → AreMarked marks s → block ≡ key / 64 → block < length marks
-    → AreMarked (set marks block true) (set s key (Some e))
-marked_put marks s block key e marked at inside = record {
-  none = λ (other : ℕ) (h : get_or (set marks block true) (other / 64) false ≡ false).
-      let apart : other / 64 ≢ block = (λ (same : other / 64 ≡ block). true_not_false (sym (get_or-set_same marks block true false inside) ∙ rw same at h)) in
-      get_or-set_other s key other (Some e) None (λ (same : other ≡ key). apart (ap (λ n. n / 64) same ∙ sym at))
-      ∙ marked.none other (sym (get_or-set_other marks block (other / 64) true false apart) ∙ h);
-}
-
--- an entry is put in the place of one
-pub marked_change : (marks : List Bool) (s : Entries) (key : ℕ) (e : PairEntry) → AreMarked marks s → get_or s key None ≢ None
-    → AreMarked marks (set s key (Some e))
-marked_change marks s key e marked some = record {
-  none = λ (other : ℕ) (h : get_or marks (other / 64) false ≡ false).
-      let none : get_or s other None ≡ None = marked.none other h in
-      get_or-set_other s key other (Some e) None (λ (same : other ≡ key). some (rw same at none)) ∙ none;
-}
 
 -- the open groups of entries
 abbrev opens : List KeyedEntry → List Unclosed
@@ -103,7 +65,3 @@ pub open_nowhere : (s : Entries) (at : ℕ) → entries_from at (drop at s) ≡ 
 open_nowhere s at none = rw (unclosed_opens at (drop at s), none) refl
 
 pub ruleset open_next = (open_here, open_later, open_nowhere)
-
-pub ruleset marked = (marked_none, marked_put, marked_change)
-
-pub ruleset passed = (block_passed, none_after)

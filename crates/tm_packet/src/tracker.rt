@@ -81,7 +81,6 @@ impl Tracker {
     /// # Errors
     ///
     /// `NoMemory` where they can't be had.
-    #[tactic(auto, using(crate::proofs::States::valid_empty))]
     pub fn new(alloc: Global) -> Result<Tracker, NoMemory>
         ensures { IfOk result (λ tracker. tracker ≡ no_entries) }
     {

@@ -1,86 +1,57 @@
--- What is read of the state is a valid one, and what is wrong with octets of a state is never that memory ran out.
-use Rattle.std.proofs.Common.{◌≡◌, ◌≢◌, ◌∙◌, ℕ, zero, suc, ◌+◌, ◌<◌, ◌^◌, Bool, Ok, Err, None, Option, Result, List, [], ◌∷◌, length, drop, refl, ap, subst, arith, ltb, eqb}
+-- What is read of the state is a valid one.
+use Rattle.std.proofs.Common.{◌≡◌, ℕ, ◌+◌, ◌<◌, ◌^◌, Ok, Err, None, Option, Result, List, [], ◌∷◌, length, drop, refl, subst, arith, ltb, eqb}
 use Rattle.std.proofs.lemmas.Bool.{cond_both}
 use Rattle.tm_bits.specs.Bits.{AreOctets}
 use Rattle.tm_bits.proofs.PartLemmas.{octets_behind}
-use Rattle.tm_frame.specs.declared.layout.LayoutParts.{LayoutParts}
 use Rattle.tm_reassembly.specs.declared.fault.StateFault.{StateFault}
-use Rattle.tm_reassembly.specs.declared.fault.StateFault.TheVariants as fault
-use Rattle.tm_reassembly.specs.Checkpoint.{DecodedState, ReadBlock, ReadBlocks, ReadMaster, and_then_blocks, block_read, blocks_read, channel_block, four_at, in_front, master_read, with_channels, with_master, state_decoding_of, old_decoding_of}
-use Rattle.tm_frame.specs.Rules.{Rules, IsLimit, chooses}
+use Rattle.tm_reassembly.specs.Checkpoint.{DecodedState, ReadBlocks, ReadMaster, blocks_read, four_at, master_read, with_channels, with_master, state_decoding_of, old_decoding_of}
+use Rattle.tm_frame.specs.Rules.{Rules, IsLimit}
 use Rattle.tm_reassembly.specs.Valid.{IsCount, IsValidState}
 use Rattle.tm_reassembly.proofs.Decoding.{blocks_valid}
 use Rattle.tm_checkpoint.specs.declared.version.Version.{Version}
 use Rattle.tm_checkpoint.specs.declared.version.Version.TheVariants.{Three}
 use Rattle.tm_checkpoint.specs.Checkpoints.{state_in}
 
--- ---- memory is not what is wrong with a block
-
-block_told : (limit : ℕ) (layout : LayoutParts) (chosen : Bool) (records : ℕ) (xs : List ℕ) → block_read limit layout chosen records xs ≢ Err fault.NoMemory
-unfolding block_read
-block_told limit layout chosen records xs e = grind arith
-
-front_told : (one : ReadBlock) (rest : Result ReadBlocks StateFault) → rest ≢ Err fault.NoMemory → in_front one rest ≢ Err fault.NoMemory
-front_told one (Ok all) h e = cc
-front_told one (Err found) h e = h e
-
-then_told : (one : Result ReadBlock StateFault) (others : ℕ → Result ReadBlocks StateFault) → one ≢ Err fault.NoMemory
-    → ((used : ℕ) → others used ≢ Err fault.NoMemory) → and_then_blocks one others ≢ Err fault.NoMemory
-then_told (Ok one) others h rest e = front_told one (others one.octets) (rest one.octets) e
-then_told (Err found) others h rest e = h (cc)
-
-blocks_told : (rules : Rules) (records n c : ℕ) (xs : List ℕ) → blocks_read rules records n c xs ≢ Err fault.NoMemory
-unfolding blocks_read
-blocks_told rules records zero c xs e = cc
-blocks_told rules records (suc n) c xs e =
-    then_told (channel_block rules c records xs) (λ used. blocks_read rules records n (c + 1) (drop used xs))
-    (block_told rules.max_packet rules.layout (chooses rules c) records xs) (λ used. blocks_told rules records n (c + 1) (drop used xs)) e
-
--- ---- what is read
-
 four_below : (xs : List ℕ) → AreOctets xs → four_at xs 0 < 2 ^ 32
 four_below xs h = omega (arith, h.below 0, h.below 1, h.below 2, h.below 3)
 
 abbrev IsRead : Rules → Result DecodedState StateFault → Type 0
 IsRead rules (Ok d) = IsLimit rules.max_packet → IsValidState rules d.state
-IsRead rules (Err found) = found ≢ fault.NoMemory
+IsRead rules (Err found) = Unit {0}
 
 abbrev IsMaster : Result ReadMaster StateFault → Type 0
 IsMaster (Ok read) = IsCount read.count
-IsMaster (Err found) = found ≢ fault.NoMemory
+IsMaster (Err found) = Unit {0}
 
 master-valid : (xs : List ℕ) → AreOctets xs → IsMaster (master_read xs)
 unfolding master_read
-master-valid [] h = λ e. cc
+master-valid [] h = tt
 master-valid (flag ∷ xs) h =
     cond_both (eqb flag 0) _ _ IsMaster (λ p. tt)
-    (λ p. cond_both (ltb 1 flag) _ _ IsMaster (λ q e. cc)
-    (λ q. cond_both (eqb (length xs) 0) _ _ IsMaster (λ r e. cc) (λ r. h.below 1)))
+    (λ p. cond_both (ltb 1 flag) _ _ IsMaster (λ q. tt)
+    (λ q. cond_both (eqb (length xs) 0) _ _ IsMaster (λ r. tt) (λ r. h.below 1)))
 
 module _ (rules : Rules) where
   channels-valid : (records octets : ℕ) (master : Option ℕ) (xs : List ℕ) (all : Result ReadBlocks StateFault) → AreOctets xs → records < 2 ^ 32 → IsCount master
       → blocks_read rules records 8 0 xs ≡ all → IsRead rules (with_channels records master octets all)
   channels-valid records octets master xs (Ok all) h small count e =
       λ range. blocks_valid rules records all.octets all.channels xs h small e range master count
-  channels-valid records octets master xs (Err found) h small count e = λ memory. blocks_told rules records 8 0 xs (e ∙ ap Err memory)
+  channels-valid records octets master xs (Err found) h small count e = tt
 
   with-valid : (records : ℕ) (xs : List ℕ) (read : Result ReadMaster StateFault) → AreOctets xs → records < 2 ^ 32 → IsMaster read
       → IsRead rules (with_master rules records xs read)
   with-valid records xs (Ok read) h small count =
       channels-valid records (4 + read.octets) read.count (drop read.octets xs) (blocks_read rules records 8 0 (drop read.octets xs)) (octets_behind read.octets xs h) small count refl
-  with-valid records xs (Err found) h small told = told
+  with-valid records xs (Err found) h small count = tt
 
   any-valid : (v : Version) (xs : List ℕ) → AreOctets xs → IsRead rules (state_in v rules xs)
   unfolding state_decoding_of old_decoding_of
   any-valid Three xs h =
-      cond_both (ltb (length xs) 4) _ _ (IsRead rules) (λ p e. cc)
+      cond_both (ltb (length xs) 4) _ _ (IsRead rules) (λ p. tt)
       (λ p. with-valid (four_at xs 0) (drop 4 xs) (master_read (drop 4 xs)) (octets_behind 4 xs h) (four_below xs h) (master-valid (drop 4 xs) (octets_behind 4 xs h)))
   any-valid _ xs h =
-      cond_both (ltb (length xs) 4) _ _ (IsRead rules) (λ p e. cc)
+      cond_both (ltb (length xs) 4) _ _ (IsRead rules) (λ p. tt)
       (λ p. channels-valid (four_at xs 0) 4 None (drop 4 xs) (blocks_read rules (four_at xs 0) 8 0 (drop 4 xs)) (octets_behind 4 xs h) (four_below xs h) tt refl)
 
   pub state_valid : IsLimit rules.max_packet → (v : Version) (xs : List ℕ) (d : DecodedState) → AreOctets xs → state_in v rules xs ≡ Ok d → IsValidState rules d.state
   state_valid range v xs d h e = subst (IsRead rules) e (any-valid v xs h) range
-
-  pub never_memory : (v : Version) (xs : List ℕ) → AreOctets xs → state_in v rules xs ≢ Err fault.NoMemory
-  never_memory v xs h e = subst (IsRead rules) e (any-valid v xs h) refl

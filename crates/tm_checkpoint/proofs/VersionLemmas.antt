@@ -1,9 +1,10 @@
 -- The versions of checkpoints, and the state in each.
-use Rattle.std.proofs.Common.{◌≡◌, ℕ, ◌+◌, ◌≤◌, Ok, Option, Some, List, ◌++◌, length, take, refl, sym, ap, ◌∙◌, arith}
+use Rattle.std.proofs.Common.{◌≡◌, ℕ, ◌+◌, ◌≤◌, Ok, Err, Result, Option, Some, List, ◌++◌, length, take, refl, sym, ap, ◌∙◌, arith}
 use Rattle.std.proofs.lemmas.Bool.Decides.{nat_tests}
 use Rattle.std.proofs.lemmas.Option.{same_Some}
 use Rattle.tm_bits.specs.Bits.{AreOctets}
-use Rattle.tm_reassembly.specs.Checkpoint.{DecodedState}
+use Rattle.tm_reassembly.specs.Checkpoint.{DecodedState, spelled_octets}
+use Rattle.tm_reassembly.specs.declared.fault.StateFault.{StateFault}
 use Rattle.tm_frame.specs.Rules.{Rules}
 use Rattle.tm_reassembly.specs.State.{State}
 use Rattle.tm_reassembly.specs.Valid.{IsValidState}
@@ -61,5 +62,11 @@ state_spelled _ rules octets d h e =
     let (inside, same, none) = old-spelled-again rules octets d h e in
     record { inside = inside; same = same; kept = ap (λ (m : Option ℕ). record d.state { master = m }) (sym none) }
 
-pub read_inside : (v : Version) (rules : Rules) (octets : List ℕ) (d : DecodedState) → AreOctets octets → state_in v rules octets ≡ Ok d → d.octets ≤ length octets
-read_inside v rules octets d h e = (state_spelled v rules octets d h e).inside
+-- so many of the octets that are checked
+pub spelled_inside : (v : Version) (rules : Rules) (octets : List ℕ) (read : ℕ) → AreOctets octets → spelled_octets (state_in v rules octets) ≡ Ok read
+    → read ≤ length octets
+spelled_inside v rules octets read h e = within (state_in v rules octets) refl e
+  where
+    within : (r : Result DecodedState StateFault) → state_in v rules octets ≡ r → spelled_octets r ≡ Ok read → read ≤ length octets
+    within (Ok d) is same = let one : d.octets ≡ read = cc in omega (arith, (state_spelled v rules octets d h is).inside)
+    within (Err found) is same = absurd (cc)

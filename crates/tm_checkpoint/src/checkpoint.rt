@@ -6,11 +6,11 @@ ghost use Rattle.tm_packet.specs.Spelling as sequence;
 ghost use Rattle.tm_reassembly.specs.declared.fault.StateFault.TheVariants as found;
 ghost use Rattle.tm_frame.specs.Rules.{IsLimit, Rules};
 ghost use Rattle.tm_reassembly.specs.State.{State};
+ghost use Rattle.tm_reassembly.specs.Checkpoint.{spelled_octets};
 ghost use Rattle.tm_reassembly.specs.Steps.{progress_in};
-ghost use Rattle.tm_reassembly.specs.Valid.{IsValidState};
 ghost use Rattle.tm_checkpoint.specs.declared.version.Version.TheVariants as version;
 ghost use Rattle.tm_checkpoint.specs.Works.{IsGoing, IsWork, work_of};
-ghost use Rattle.tm_checkpoint.specs.Checkpoints.{AsksMemory, checkpoint_of, check_holds, form_of, version_in, head_octets, inner, job_of, presence_octet, resumed, says_settings, settings_octets, state_in, tells, three_octets, with_check, with_entries, with_state};
+ghost use Rattle.tm_checkpoint.specs.Checkpoints.{AsksMemory, checkpoint_of, check_holds, form_of, version_in, head_octets, inner, job_of, presence_octet, resumed, says_settings, settings_octets, state_in, tells, three_octets, with_check, with_entries};
 
 use crate::version::Version;
 use std::alloc::{AllocError, Global};
@@ -88,13 +88,21 @@ pub fn read_checkpoint(
         Err(fault) => return Err(fault),
     };
     let inner = inner(version, octets);
-    let (reassembly, read) = match read_state(alloc, settings, version, inner) {
-        Ok(read) => read,
+    let Ok(read) = check_state(settings, version, inner) else {
+        return Err(CheckpointFault::State);
+    };
+
+    // The entries are made before the tails: the C library keeps the pages of what is taken first from job to job.
+    let tracker = match read_entries(alloc, &inner[read..]) {
+        Ok(tracker) => tracker,
         Err(fault) => return Err(fault),
     };
-    match read_entries(alloc, &inner[read..]) {
-        Ok(tracker) => Ok((reassembly, tracker)),
-        Err(fault) => Err(fault),
+    match decode_state(alloc, settings, version, inner) {
+        Ok((reassembly, _)) => {
+            prove!(!reassembly.failed());
+            Ok((reassembly, tracker))
+        }
+        Err(_) => Err(CheckpointFault::NoMemory),
     }
 }
 
@@ -243,6 +251,21 @@ fn inner(version: Version, octets: &[u8]) -> &[u8]
     &octets[begin..octets.len() - 2]
 }
 
+// Checks the state at the front of octets in the form of a version. Answers how many of them it has.
+#[tactic(auto, using(crate::proofs::VersionLemmas::spelled_inside))]
+fn check_state(settings: &Settings, version: Version, octets: &[u8]) -> Result<usize, StateFault>
+    ensures value { result ≡ spelled_octets (state_in version settings.now octets.now) }
+    ensures inside { IfOk result (λ read. read ≤ length octets.now) }
+{
+    Reassembly::check(
+        settings.layout(),
+        settings.channels(),
+        settings.max_packet(),
+        version.form().with_master,
+        octets,
+    )
+}
+
 // The state at the front of octets in the form of a version, and how many of them it has.
 fn decode_state(
     alloc: Global,
@@ -263,33 +286,6 @@ fn decode_state(
         Reassembly::decode(alloc, layout, channels, max_packet, octets)
     } else {
         Reassembly::decode_old(alloc, layout, channels, max_packet, octets)
-    }
-}
-
-// The same, where what is refused is a fault of the checkpoint.
-#[tactic(auto, using(crate::proofs::ReadValid::never_memory, crate::proofs::VersionLemmas::read_inside))]
-fn read_state(
-    alloc: Global,
-    settings: &Settings,
-    version: Version,
-    octets: &[u8],
-) -> Result<(Reassembly, usize), CheckpointFault>
-    ensures ok { IfOk result (λ read. state_in version settings.now octets.now
-        ≡ Ok (record { state = read.0.state; octets = read.1 })) }
-    ensures same { IfOk result (λ read. read.0 ≡ progress_in settings.now read.0.state) }
-    ensures valid { IfOk result (λ read. IsValidState read.0.rules read.0.state) }
-    ensures inside { IfOk result (λ read. read.1 ≤ length octets.now) }
-    ensures refused { IfErr result (λ found. found ≢ CheckpointFault.NoMemory
-        → with_state settings.now octets.now (state_in version settings.now octets.now) ≡ Err found) }
-    ensures memory { IsErrOf result CheckpointFault.NoMemory → IsOk (state_in version settings.now octets.now) }
-{
-    match decode_state(alloc, settings, version, octets) {
-        Ok((reassembly, read)) => {
-            prove!(!reassembly.failed());
-            Ok((reassembly, read))
-        }
-        Err(StateFault::NoMemory) => Err(CheckpointFault::NoMemory),
-        Err(_) => Err(CheckpointFault::State),
     }
 }
 

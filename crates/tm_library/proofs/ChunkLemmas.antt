@@ -1,5 +1,5 @@
 -- A recording whose octets that are done are given as zeros.
-use Rattle.std.proofs.Common.{◌≡◌, ◌≤◌, ◌<◌, ℕ, ◌+◌, ◌*◌, Bool, true, false, List, [], ◌∷◌, ◌++◌, length, take, drop, replicate, refl, sym, ap, ◌∙◌, arith, inl, inr, Option, Some, Ok}
+use Rattle.std.proofs.Common.{◌≡◌, ◌⊎◌, ◌≤◌, ◌<◌, ℕ, ◌+◌, ◌*◌, Bool, true, false, List, [], ◌∷◌, ◌++◌, length, take, drop, replicate, refl, sym, ap, ◌∙◌, arith, inl, inr, Option, Some, Ok}
 use Rattle.std.proofs.lemmas.Grind.{common_steps}
 use Rattle.std.proofs.lemmas.List.{length-replicate, map-append}
 use Rattle.std.proofs.KnownBytes.{Appends-nil, Appends-trans}
@@ -8,22 +8,20 @@ use Rattle.std.specs.Io.KnownBytes.{Appends}
 use Rattle.std.specs.List.{concat}
 use Rattle.tm_frame.specs.Layout.{most_records}
 use Rattle.tm_frame.specs.Rules.{Rules}
-use Rattle.tm_frame.specs.declared.layout.LayoutParts.{LayoutParts}
 use Rattle.tm_checkpoint.specs.Checkpoints.{resumed}
 use Rattle.tm_checkpoint.specs.Works.{JobState, Work, new_job}
 use Rattle.tm_output.specs.declared.command.Command.{Command}
 use Rattle.tm_output.specs.declared.command.Ending.{Ending}
 use Rattle.tm_faults.specs.declared.run.RunFault.{RunFault}
-use Rattle.tm_faults.specs.declared.run.RunFault.TheVariants.{TooMany}
+use Rattle.tm_faults.specs.declared.run.RunFault.TheVariants.{NoMemory, TooMany}
 use Rattle.tm_output.specs.Outputs.{AppendsPieces, Piece, View, line_piece, line_pieces, octets_buffering, reports}
 use Rattle.tm_output.specs.Pieces.{text_of, buffering_of}
 use Rattle.tm_output.specs.Records.{AreRecords, record_count, records, rest_of}
 use Rattle.tm_output.specs.declared.totals.Totals.{Totals}
-use Rattle.tm_tool.specs.Courses.{RecordCourse, whole}
+use Rattle.tm_tool.specs.Courses.{HasRun, IsStoppedAt, RecordCourse, StopsWithoutMemory, whole}
 use Rattle.tm_tool.specs.Listing.{listing_course}
-use Rattle.tm_tool.specs.declared.listing.Listed.{Listed}
-use Rattle.tm_tool.specs.code.Listed.{Lists}
-use Rattle.tm_tool.proofs.Courses.{run_whole}
+use Rattle.tm_tool.specs.ListedRuns.{lines_course}
+use Rattle.tm_tool.proofs.Courses.{run_many, run_whole}
 use Rattle.tm_output.proofs.LinePieces.{lines_out}
 use Rattle.tm_tool.proofs.ListingLemmas.{is_course}
 use Rattle.tm_output.proofs.RecordLemmas.{count_front, records_counted, records_front, rest_front}
@@ -90,17 +88,28 @@ module _ (w : Work) (octets : List ℕ) (done : ℕ) (is : done ≡ w.state.reco
       ≡ line_pieces (lines_from w.rules.layout w.state.records last octets)
   lines_are last = rw (taken_is last, rest_is) (sym (map-append line_piece _ _))
 
-  -- so they were written
-  pub lists_lines : (last : Bool) (ending : Ending) → ending ≡ chunk_ending last → (layout : LayoutParts) → layout ≡ w.rules.layout → (left : Option (List ℕ)) (failures : ℕ) (old new : View (Option (List ℕ)))
-      (listed : Listed) → Lists layout w.state.records ending (devices_at (Some (replicate done 0 ++ octets)) 0 old) (devices_at left failures new) (Ok listed)
-      → Appends old.out new.out (concat (lines_from w.rules.layout w.state.records last octets))
-  lists_lines last ending ends layout same left failures old new listed (inr h) = absurd (cc)
-  lists_lines last ending ends layout same left failures old new listed (inl h) =
-      let run = rw (ends, same) at h.0 in
-      let c : RecordCourse ℕ = listing_course w.rules.layout w.state.records (chunk_ending last) in
-      let took = run_whole c (is_course w.rules.layout w.state.records (chunk_ending last)) some (Some (replicate done 0 ++ octets)) left
-      Appends Appends-nil Appends-trans octets_buffering old new _ run in
-      rw (lines_are last, lines_out) at took.whole.0
+  module _ (last : Bool) (ending : Ending) (ends : ending ≡ chunk_ending last) (left : Option (List ℕ)) (old new : View (Option (List ℕ))) where
+    -- so they were written
+    pub lists_lines : (Holds : ℕ → List (List ℕ) → ℕ → Type 0)
+        → HasRun Appends octets_buffering (lines_course ending w) (Some (replicate done 0 ++ octets)) left old new Holds
+        → Appends old.out new.out (concat (lines_from w.rules.layout w.state.records last octets))
+    lists_lines Holds h =
+        let c : RecordCourse ℕ = lines_course (chunk_ending last) w in
+        let took = run_whole c (is_course w.rules.layout w.state.records (chunk_ending last)) some (Some (replicate done 0 ++ octets)) left
+        Appends Appends-nil Appends-trans octets_buffering old new _ (rw ends at h) in
+        rw (lines_are last, lines_out) at took.whole.0
+
+    -- and there are too many records only if there are more than the greatest number
+    pub lists_refused : (fresh : Bool) (fault : RunFault)
+        → IsStoppedAt Appends octets_buffering (lines_course ending w) (Some (replicate done 0 ++ octets)) left old new fault
+        ⊎ ((fault ≡ NoMemory) × StopsWithoutMemory Appends octets_buffering (lines_course ending w) (Some (replicate done 0 ++ octets)) left old new)
+        → IsRunRefused (record { work = w; fresh = fresh }) octets (run_refusal fault)
+    lists_refused fresh TooMany (inl h) =
+        let many = run_many (lines_course ending w) (is_course w.rules.layout w.state.records ending) some (Some (replicate done 0 ++ octets)) left
+        Appends Appends-nil Appends-trans octets_buffering old new h in
+        omega (arith, many, count_is)
+    lists_refused fresh TooMany (inr h) = let no : TooMany ≡ NoMemory = h.0 in absurd (cc)
+    lists_refused fresh _ h = tt
 
 module _ (command : Command) (last : Bool) (job : JobState) (octets : List ℕ) (done : ℕ) (is : done ≡ job.work.state.records * size_of job.work) where
   abbrev its_pieces : List (Piece ℕ)

@@ -5,7 +5,6 @@ mod chunk;
 mod inputs;
 pub mod laws;
 mod listing;
-mod nowhere;
 mod refusal;
 mod request;
 mod running;

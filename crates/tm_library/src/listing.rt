@@ -11,50 +11,19 @@ ghost use Rattle.tm_library.specs.Refusals.{IsRunRefused};
 
 use crate::Refusal;
 use crate::chunk::Chunk;
-use crate::nowhere::Nowhere;
 use crate::running::{Given, chunk_ending};
 use std::alloc::Global;
 use tm_devices::Room;
-use tm_frame::Layout;
-use tm_tool::{Command, Done, Job, list_behind, run};
-
-// Runs over a chunk for the job alone: what is given goes nowhere.
-fn pass_chunk(alloc: Global, job: Job, chunk: Chunk<'_>) -> Result<Done, Refusal>
-    requires { chunk.done ≡ job.work.state.records * size_of job.work }
-    ensures records { IfOk result (λ done. done.records
-        ≡ job.work.state.records + length (records (size_of job.work) chunk.entry.octets.now)) }
-    ensures kept { IfOk result (λ done. option_map (λ j. j.work) done.kept
-        ≡ kept_of (chunk_ending chunk.entry.last) (worked job.work (records (size_of job.work) chunk.entry.octets.now))) }
-    ensures totals { IfOk result (λ done. done.totals ≡ totals_by Extract chunk.entry.last job chunk.entry.octets.now) }
-    ensures refused { IfErr result (IsRunRefused job chunk.entry.octets.now) }
-{
-    let ending = chunk_ending(chunk.last);
-    let mut recording = chunk;
-    let (mut out, mut report) = (Nowhere, Nowhere);
-    match run(
-        alloc,
-        job,
-        Command::Extract,
-        &mut recording,
-        &mut out,
-        &mut report,
-        ending,
-    ) {
-        Ok(done) => Ok(done),
-        Err(fault) => Err(fault.into()),
-    }
-}
+use tm_tool::{Job, list_with_job};
 
 /// Lists the frames of a chunk that follows what the job has done. The job that is kept is the one that a run over the chunk keeps.
 pub fn list_into_room(
     alloc: Global,
-    layout: &Layout,
     job: Job,
     chunk: Chunk<'_>,
     out: &mut [u8],
 ) -> Result<Given, Refusal>
-    requires layout { layout.now ≡ job.work.rules.layout }
-    requires done { chunk.done ≡ job.work.state.records * size_of job.work }
+    requires { chunk.done ≡ job.work.state.records * size_of job.work }
 
     // Just the lines of the chunk stand in the room, where it is large enough.
     ensures out { IfOk result (λ given. Holds out.new given.out
@@ -69,24 +38,18 @@ pub fn list_into_room(
     // Else there are too many records, or memory ran out.
     ensures refused { IfErr result (IsRunRefused job chunk.entry.octets.now) }
 {
-    let first = job.records();
     let ending = chunk_ending(chunk.last);
     let mut recording = chunk;
-    let done = match pass_chunk(alloc, job, chunk) {
-        Ok(done) => done,
-        Err(refusal) => return Err(refusal),
-    };
     let mut more = Vec::new(alloc);
     let mut room = Room::new(out, &mut more);
-    match list_behind(alloc, *layout, first, &mut recording, &mut room, ending) {
-        Ok(_) => Ok(Given {
+    match list_with_job(job, &mut recording, &mut room, ending) {
+        Ok(done) => Ok(Given {
             records: done.records,
             kept: done.kept,
             out: room.length(),
             report: 0,
             totals: done.totals,
         }),
-        // All records were taken before, so what can be wanting is memory.
-        Err(_) => Err(Refusal::NoMemory),
+        Err(fault) => Err(fault.into()),
     }
 }

@@ -131,7 +131,7 @@ fn give(
     };
     match request.wanted {
         Wanted::Packets(command) => run_into_rooms(alloc, job, command, chunk, out, report),
-        Wanted::Frames => list_into_room(alloc, layout, job, chunk, out),
+        Wanted::Frames => list_into_room(alloc, job, chunk, out),
     }
 }
 

@@ -1,11 +1,12 @@
 -- The loops over the blocks of channels: what was read so far, and what is still to be read.
 use Rattle.std.proofs.Common.{◌≡◌, ℕ, suc, ◌+◌, ◌-◌, ◌<◌, ◌≤◌, Bool, Ok, Err, Result, Option, List, [], ◌∷◌, ◌++◌, length, take, drop, refl, sym, ap, subst, ◌∙◌, arith, append_assoc, length-drop}
-use Rattle.std.specs.Prelude.{slice_set, IsOk}
+use Rattle.std.specs.Prelude.{slice_set}
 use Rattle.std.proofs.lemmas.List.{append-nil, drop-drop, take_all, take_more_set, take_rest}
 use Rattle.tm_frame.specs.Rules.{Rules, chooses}
 use Rattle.tm_reassembly.specs.declared.fault.StateFault.{StateFault}
 use Rattle.tm_reassembly.specs.Checkpoint.{ReadBlock, ReadBlocks, block_read, blocks_read, in_front, and_then_blocks}
 use Rattle.tm_reassembly.specs.State.{Last}
+use Rattle.tm_reassembly.specs.code.Blocks.{HaveBlocks}
 
 -- some blocks in front
 abbrev in_fronts : List (Option Last) → ℕ → Result ReadBlocks StateFault → Result ReadBlocks StateFault
@@ -91,8 +92,8 @@ module _ (rules : Rules) (records : ℕ) (xs : List ℕ) where
     reads = reads_more rules records xs c at used r.done last r.reads h (as_asked rules records xs c at b _ same e) (rw take_rest at fits);
   }
 
-  pub some_all : (c at : ℕ) → ReadsSome rules records xs c at → 8 ≤ c → IsOk (blocks_read rules records 8 0 xs)
-  some_all c at r h = rw (reads_all rules records xs c at r.done r.reads h)
+  pub some_all : (c at : ℕ) → ReadsSome rules records xs c at → 8 ≤ c → HaveBlocks rules records xs at
+  some_all c at r h = record { channels = r.done; are = reads_all rules records xs c at r.done r.reads h; inside = r.reads.inside }
 
 module _ (rules : Rules) (records : ℕ) (xs : List ℕ) where
   -- what is kept of the channels up to c is what was read

@@ -28,10 +28,7 @@ use Rattle.tm_reassembly.proofs.Fits.{reading-fit}
 use Rattle.tm_reassembly.proofs.Joining.{before_of, tail_of, member_items}
 use Rattle.tm_reassembly.proofs.OneStep.{items-one-valid, valid-from, after-one, after-bad, items-other, after-other, open-at}
 
--- what is read, and whether a channel is chosen, by rules that are equal to these
-pub read_as : {inside rules : Rules} (octets : List ℕ) {r : FrameReading} → inside ≡ rules → r ≡ frame_reading_of inside.layout octets → frame_reading_of rules.layout octets ≡ r
-read_as octets e f = ap (λ (r : Rules). frame_reading_of r.layout octets) (sym e) ∙ sym f
-
+-- whether a channel is chosen, by rules that are equal to these
 pub chosen_as : {inside rules : Rules} (c : ℕ) {asked answer : Bool} → inside ≡ rules → asked ≡ chooses inside c → asked ≡ answer → chooses rules c ≡ answer
 chosen_as c e f g = ap (λ (r : Rules). chooses r c) (sym e) ∙ sym f ∙ g
 

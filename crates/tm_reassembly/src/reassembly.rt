@@ -1,15 +1,16 @@
 //! The reassembly of packets, record by record.
 
-ghost use Rattle.std.specs.Prelude.{◌≡◌, ◌⊎◌, ◌+◌, ◌*◌, ◌<◌, ◌≤◌, ◌++◌, IfOk, IfErr, OnOk, OnErr, IsOk, Ok, Err, vec_len, vec_capacity, replicate, List, Option, None, Some, true, false, [], ◌∷◌, length};
+ghost use Rattle.std.specs.Prelude.{◌≡◌, ◌⊎◌, ◌+◌, if◌then◌else◌, ◌*◌, ◌<◌, ◌≤◌, ◌++◌, IfOk, IfErr, OnOk, OnErr, Ok, Err, vec_len, vec_capacity, replicate, ℕ, List, Option, None, Some, true, false, [], ◌∷◌, length};
 ghost use Rattle.std.specs.List.{flat_map};
+ghost use Rattle.tm_frame.specs.Fault.{frame_reading_of};
 ghost use Rattle.tm_frame.specs.Layout.{record_length_of};
-ghost use Rattle.tm_reassembly.specs.Checkpoint.{block, state_spelling, blocks_read, state_decoding_of, old_decoding_of};
-ghost use Rattle.tm_reassembly.specs.code.Blocks.{KeepBlocks, channels_decoding, decoding_in};
+ghost use Rattle.tm_reassembly.specs.Checkpoint.{block, state_spelling, blocks_read, state_decoding_of, old_decoding_of, spelled_octets};
+ghost use Rattle.tm_reassembly.specs.code.Blocks.{HaveBlocks, IsFront, KeepBlocks, channels_decoding, decoding_in};
 ghost use Rattle.tm_reassembly.specs.Items.{closing, close_channels};
 ghost use Rattle.tm_reassembly.specs.code.Slots.{HaveLimit, lasts, capacities, state_in_slots, unused};
 ghost use Rattle.tm_reassembly.specs.State.{octets_in, State, Last};
-ghost use Rattle.tm_reassembly.specs.Recording.{items, after, is_chosen_frame};
-ghost use Rattle.tm_frame.specs.Rules.{IsLimit, chooses};
+ghost use Rattle.tm_reassembly.specs.Recording.{items, after, is_chosen_frame, is_chosen_reading};
+ghost use Rattle.tm_frame.specs.Rules.{IsLimit, Rules, chooses};
 ghost use Rattle.tm_items.specs.Giving.{Gives};
 ghost use Rattle.tm_items.specs.Sinks.{TakesAll};
 ghost use Rattle.tm_reassembly.specs.Steps.{Progress, new_progress, most_records, progress_in, step_items, stepped, StepRefused, CloseRefused, last_count_of, rules_of, IsRestored, IsRefusal};
@@ -23,7 +24,7 @@ use crate::checkpoint::{
 use crate::fault::{NoMemory, StateFault, StepFault};
 use std::alloc::{AllocError, Global};
 use std::marker::Model;
-use tm_frame::{Channels, Layout, Rules, read};
+use tm_frame::{Channels, Frame, FrameFault, Layout, Rules, read};
 use tm_items::{Item, Sink};
 
 /// Takes the records of a recording one by one, and gives the packets of the chosen channels and what was lost.
@@ -108,12 +109,46 @@ impl Reassembly {
     /// `Failed` where an earlier step was refused by its sink; else `TooMany` where 2^32 - 1 records are done; both change nothing. Else
     /// `Sink` where the sink refused an item: it then has taken the items before that one, each later step is `Failed`, and the number of
     /// records stays.
+    #[inline(always)]
     pub fn step_record<S: Sink>(
         &mut self,
         octets: &[u8],
         sink: &mut S,
     ) -> Result<bool, StepFault<S::Fault>>
         requires { length octets.now ≡ record_length_of self.old.rules.layout }
+        ensures accepted { OnOk result (TakesAll S.takes (S.known sink.old) (step_items self.old octets.now) (S.known sink.new)) }
+        ensures chosen { IfOk result (λ chosen. chosen ≡ is_chosen_frame self.old.rules octets.now) }
+        ensures left { OnOk result (self.new ≡ stepped self.old octets.now) }
+        ensures asked { OnOk result ((self.old.failed ≡ false) × (self.old.state.records < most_records)) }
+        ensures refused { IfErr result (StepRefused S.known S.takes S.refuses self.old self.new sink.old sink.new
+            (step_items self.old octets.now)) }
+    {
+        let reading = self.read(octets);
+        self.step_frame(reading, octets, sink)
+    }
+
+    /// Reads the octets of a record: the good frame, or the first fault that applies.
+    #[inline(always)]
+    pub fn read<'r>(&self, octets: &'r [u8]) -> Result<Frame<'r>, FrameFault>
+        requires { length octets.now ≡ record_length_of self.now.rules.layout }
+        ensures { result ≡ frame_reading_of self.now.rules.layout octets.now }
+    {
+        read(&self.rules.layout, octets)
+    }
+
+    /// Takes the next record as `step_record` does, where `read` has read its octets already.
+    ///
+    /// # Errors
+    ///
+    /// As `step_record`.
+    #[inline(always)]
+    pub fn step_frame<S: Sink>(
+        &mut self,
+        reading: Result<Frame<'_>, FrameFault>,
+        octets: &[u8],
+        sink: &mut S,
+    ) -> Result<bool, StepFault<S::Fault>>
+        requires { reading ≡ frame_reading_of self.old.rules.layout octets.now }
         ensures accepted { OnOk result (TakesAll S.takes (S.known sink.old) (step_items self.old octets.now) (S.known sink.new)) }
         ensures chosen { IfOk result (λ chosen. chosen ≡ is_chosen_frame self.old.rules octets.now) }
         ensures left { OnOk result (self.new ≡ stepped self.old octets.now) }
@@ -132,7 +167,7 @@ impl Reassembly {
             self.records,
             &mut self.master,
             &mut self.states,
-            octets,
+            reading,
             sink,
         ) {
             Ok(chosen) => {
@@ -332,10 +367,66 @@ impl Reassembly {
         };
         decode_form(alloc, rules, Form::WithoutMaster, older)
     }
+
+    /// Checks the spelling at the beginning of these octets as `decode` does, or as `decode_old` where it is without the master channel's
+    /// count. It takes no memory. Answers the number of octets that `decode` reads.
+    ///
+    /// # Errors
+    ///
+    /// As `decode`, and never `NoMemory`.
+    pub fn check(
+        layout: Layout,
+        channels: Channels,
+        max_packet: u32,
+        with_master: bool,
+        octets: &[u8],
+    ) -> Result<usize, StateFault>
+        ensures { let rules = rules_of layout channels max_packet in result ≡ spelled_octets
+            (if with_master then state_decoding_of rules octets.now else old_decoding_of rules octets.now) }
+    {
+        let rules = Rules {
+            layout,
+            channels,
+            max_packet,
+        };
+        if with_master {
+            check_form(&rules, Form::WithMaster, octets)
+        } else {
+            check_form(&rules, Form::WithoutMaster, octets)
+        }
+    }
+}
+
+// Reads what a spelling has before the channels: the number of records, the last master channel count, and how many octets these are.
+#[tactic(auto, using(crate::proofs::Decoding::decoding_short))]
+fn read_front(form: Form, octets: &[u8]) -> Result<(u32, Option<u8>, usize), StateFault>
+    ensures ok { IfOk result (IsFront form octets.now) }
+    ensures refused { IfErr result (λ fault. (rules : Rules) → decoding_in form rules octets.now ≡ Err fault) }
+{
+    if octets.len() < 4 {
+        return Err(StateFault::Short);
+    }
+    match read_master(form, &octets[4..]) {
+        Ok((master, used)) => Ok((four_at(octets, 0), master, 4 + used)),
+        Err(fault) => Err(fault),
+    }
+}
+
+// Checks a spelling of this form. Answers how many octets it has.
+fn check_form(rules: &Rules, form: Form, octets: &[u8]) -> Result<usize, StateFault>
+    ensures { result ≡ spelled_octets (decoding_in form rules.now octets.now) }
+{
+    let (records, _, start) = match read_front(form, octets) {
+        Ok(front) => front,
+        Err(fault) => return Err(fault),
+    };
+    match check_channels(rules, records, &octets[start..]) {
+        Ok(read) => Ok(start + read),
+        Err(fault) => Err(fault),
+    }
 }
 
 // Reads a spelling of this form.
-#[tactic(auto, using(crate::proofs::Decoding::decoding_short))]
 fn decode_form(
     alloc: Global,
     rules: Rules,
@@ -346,13 +437,9 @@ fn decode_form(
     ensures ok { IfOk result (λ read. IsRestored (decoding_in form) rules octets.now read) }
     ensures refused { IfErr result (IsRefusal (decoding_in form rules octets.now)) }
 {
-    if octets.len() < 4 {
-        return Err(StateFault::Short);
-    }
-    let records = four_at(octets, 0);
-    match read_master(form, &octets[4..]) {
-        Ok((master, used)) => {
-            decode_channels(alloc, rules, records, master, 4 + used, &octets[4 + used..])
+    match read_front(form, octets) {
+        Ok((records, master, start)) => {
+            decode_channels(alloc, rules, records, master, start, &octets[start..])
         }
         Err(fault) => Err(fault),
     }
@@ -373,7 +460,7 @@ fn decode_channels(
     ensures ok { IfOk result (λ read. IsRestored (channels_decoding records master start) rules octets.now read) }
     ensures refused { IfErr result (IsRefusal (channels_decoding records master start rules octets.now)) }
 {
-    if let Err(fault) = check(&rules, records, octets) {
+    if let Err(fault) = check_channels(&rules, records, octets) {
         return Err(fault);
     }
     let Ok(mut states) = eight_states(alloc, rules.max_packet as usize) else {
@@ -437,26 +524,27 @@ fn eight_states(alloc: Global, limit: usize) -> Result<[ChannelState; 8], AllocE
     Ok(states_in_a_row(four_states(alloc, limit)?, four_states(alloc, limit)?))
 }
 
-// Reads a record, after `seen` that are done. Answers whether it is a good frame of a chosen channel.
+// Takes a record that reads so, after `seen` that are done. Answers whether it is a good frame of a chosen channel.
+#[inline(always)]
 fn add_record<S: Sink>(
     rules: &Rules,
     seen: u32,
     master: &mut Option<u8>,
     states: &mut [ChannelState; 8],
-    octets: &[u8],
+    reading: Result<Frame<'_>, FrameFault>,
     sink: &mut S,
 ) -> Result<bool, S::Fault>
-    requires record { length octets.now ≡ record_length_of rules.now.layout }
     requires state { IsValidState rules.now (state_in_slots seen master.old states.old) }
     requires limit { HaveLimit rules.now.max_packet states.old }
-    ensures given { Gives S.Sink sink.old sink.new
-        (items rules.now (state_in_slots seen master.old states.old) (octets.now ∷ [])) result }
-    ensures chosen { IfOk result (λ chosen. chosen ≡ is_chosen_frame rules.now octets.now) }
-    ensures left { OnOk result (state_in_slots (seen + 1) master.new states.new
-        ≡ after rules.now (state_in_slots seen master.old states.old) (octets.now ∷ [])) }
+    ensures given { (octets : List ℕ) → frame_reading_of rules.now.layout octets ≡ reading.entry → Gives S.Sink sink.old sink.new
+        (items rules.now (state_in_slots seen master.old states.old) (octets ∷ [])) result }
+    ensures chosen { IfOk result (λ chosen. chosen ≡ is_chosen_reading rules.now reading.entry) }
+    ensures left { OnOk result ((octets : List ℕ) → frame_reading_of rules.now.layout octets ≡ reading.entry
+        → state_in_slots (seen + 1) master.new states.new
+        ≡ after rules.now (state_in_slots seen master.old states.old) (octets ∷ [])) }
     ensures limit { OnOk result (HaveLimit rules.now.max_packet states.new) }
 {
-    match read(&rules.layout, octets) {
+    match reading {
         Ok(frame) => {
             let count = frame.master_count();
             if let Err(fault) = give_master_gap(seen, *master, count, sink) {
@@ -537,10 +625,10 @@ fn push_channels(out: &mut Vec<u8>, states: &[ChannelState; 8])
     }
 }
 
-// The first fault of the channels' blocks, if there is one.
+// Checks the blocks of the channels. Answers how many octets they have.
 #[tactic(auto, using(crate::proofs::Blocks::some_none, crate::proofs::Blocks::some_more))]
-fn check(rules: &Rules, records: u32, octets: &[u8]) -> Result<(), StateFault>
-    ensures ok { OnOk result (IsOk (blocks_read rules.now records 8 0 octets.now)) }
+fn check_channels(rules: &Rules, records: u32, octets: &[u8]) -> Result<usize, StateFault>
+    ensures ok { IfOk result (HaveBlocks rules.now records octets.now) }
     ensures refused { IfErr result (λ fault. blocks_read rules.now records 8 0 octets.now ≡ Err fault) }
 {
     let mut at = 0;
@@ -550,7 +638,7 @@ fn check(rules: &Rules, records: u32, octets: &[u8]) -> Result<(), StateFault>
             Err(fault) => return Err(fault),
         }
     }
-    Ok(())
+    Ok(at)
 }
 
 // Keeps what the blocks say of the channels. Answers how many octets they have.

@@ -69,7 +69,7 @@ module _ {A K : Type 0} (grows : K → K → List A → Type 0) (grows-nil : (k 
   module _ {V : Type 0} (c : RecordCourse A) (takes : Taking V) (refuses : Refusing V) (see : V → View K) (count : V → ℕ) (old : V)
       (along : Along grows buffering c takes refuses see count old) where
     -- records that were taken one by one were taken
-    took_each : (rs : List (List ℕ)) (new : V) → TakesEach takes old rs new → takes old rs new
+    pub took_each : (rs : List (List ℕ)) (new : V) → TakesEach takes old rs new → takes old rs new
     took_each = holds_of_all takes (takes old) along.more old along.none
 
     module _ (first next : Option (List ℕ)) (failures failures' : ℕ) (new : V) where

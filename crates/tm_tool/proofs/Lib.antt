@@ -16,3 +16,4 @@ pub mod RecordCounted
 pub mod SummaryEnds
 pub mod Counted
 pub mod DataOctets
+pub mod ListingRuns

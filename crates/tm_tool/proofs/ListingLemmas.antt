@@ -117,7 +117,7 @@ module _ (layout : LayoutParts) where
 
     -- so a whole recording is listed
     pub lists_whole : (some : 0 < record_length_of layout) (failures failures' : ℕ) (old new : Option (List ℕ)) (out_failures out_failures' : ℕ) (r : Result Listed RunFault)
-        → Lists layout 0 Close (devices_at first failures (view old None out_failures 0)) (devices_at next failures' (view new None out_failures' 0)) r
+        → Lists layout (devices_at first failures (view old None out_failures 0)) (devices_at next failures' (view new None out_failures' 0)) r
         → IfOk r (IsListing layout first next old new) × IfErr r (IsListingStop layout first next (view old None out_failures 0) (view new None out_failures' 0))
         × FaultsCounted failures failures' out_failures out_failures' r
     lists_whole some failures failures' old new out_failures out_failures' (Ok listed) (inl h) =

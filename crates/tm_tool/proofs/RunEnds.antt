@@ -67,7 +67,7 @@ module _ {A K : Type 0} (grows : K → K → List A → Type 0) (grows-nil : (k 
   -- ---- a run goes along its course
 
   module _ (buffering : Buffering) (text : Texts A) (ending : Ending) (old : RunState K) (valid : IsValid old.work) where
-    along : Along grows buffering (course text ending old.work) (TakesRecords grows text) (RefusesRecord grows text buffering)
+    pub along : Along grows buffering (course text ending old.work) (TakesRecords grows text) (RefusesRecord grows text buffering)
         (λ (s : RunState K). s.view) (λ (s : RunState K). s.work.state.records) old
     along = record {
       is = is_course text ending old.work valid;

@@ -97,6 +97,14 @@ module _ {A K : Type 0} (grows : K → K → List A → Type 0) (buffering : Buf
     pub took : Took grows old mid (pieces_read c read)
     pub stopped : Stopped grows buffering mid new (c.at_end (drop c.done read) (length rest)) fault
 
+  -- Memory ran out for something else than a piece: the pieces of the whole records that were read are written, or of all but the last. Behind
+  -- those that are written these octets were read.
+  pub record StopsWithoutMemory (left_old left_new : Option (List ℕ)) (old new : View K) : Type 0 where
+    pub read : List (List ℕ)
+    pub part : List ℕ
+    pub octets : HasRead c.size left_old left_new read part
+    pub took : Took grows old new (pieces_read c read)
+
   abbrev pub StopsWriting : Option (List ℕ) → Option (List ℕ) → View K → View K → RunFault → Type 0
   StopsWriting left_old left_new old new fault =
       StopsAtRecord left_old left_new old new fault ⊎ StopsAtEnd left_old left_new old new fault

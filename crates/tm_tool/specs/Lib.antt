@@ -6,6 +6,7 @@ pub mod RecordingPieces
 pub mod HeadPieces
 pub mod RunTotals
 pub mod Runs
+pub mod ListedRuns
 pub mod Resuming
 pub mod OlderVersions
 pub mod LostGaps

@@ -5,3 +5,4 @@ pub mod Stepping
 pub mod Summing
 pub mod Heads
 pub mod Extractors
+pub mod ListingRuns

@@ -55,15 +55,16 @@ impl Job {
     pub fn new(alloc: Global, settings: &Settings) -> Result<Job, NoMemory>
         ensures { IfOk result (λ job. job ≡ new_job settings.now) }
     {
+        // The C library keeps the pages of what is taken first from job to job.
+        let Ok(tracker) = Tracker::new(alloc) else {
+            return Err(NoMemory);
+        };
         let Ok(reassembly) = Reassembly::new(
             alloc,
             settings.layout(),
             settings.channels(),
             settings.max_packet(),
         ) else {
-            return Err(NoMemory);
-        };
-        let Ok(tracker) = Tracker::new(alloc) else {
             return Err(NoMemory);
         };
         match Extractor::new(alloc, reassembly, tracker) {
@@ -83,8 +84,8 @@ impl Job {
     }
 }
 
-// What was done: the job is kept, unless the ending closed the recording.
-fn make_done(extractor: Extractor, fresh: bool, ending: Ending, totals: Totals) -> Done
+/// What was done: the job is kept, unless the ending closed the recording.
+pub(crate) fn make_done(extractor: Extractor, fresh: bool, ending: Ending, totals: Totals) -> Done
     requires ready { IsReady extractor }
     ensures totals { result.totals ≡ totals }
     ensures records { result.records ≡ extractor.reassembly.state.records }

@@ -7,12 +7,15 @@ mod extractor;
 mod job;
 pub mod laws;
 mod listing;
+mod listing_run;
+mod nowhere;
 mod record_loop;
 mod recording;
 mod summary;
 
 pub use job::{Done, Job, run, split};
-pub use listing::{Listed, list_behind, list_frames, list_recording};
+pub use listing::{Listed, list_frames, list_recording};
+pub use listing_run::list_with_job;
 pub use summary::{Summed, sum_up, summarize};
 pub use tm_bits::Octets;
 pub use tm_devices::{

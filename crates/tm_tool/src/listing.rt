@@ -1,11 +1,12 @@
 //! A line for each frame of a recording.
 
-ghost use Rattle.std.specs.Prelude.{◌≡◌, ◌≤◌, ◌<◌, ◌∷◌, [], length, IfOk, OnOk, OnErr};
+ghost use Rattle.std.specs.Prelude.{◌≡◌, ◌≤◌, ◌<◌, ◌∷◌, [], length, is_ok, IfOk, OnOk, OnErr};
 ghost use Rattle.std.specs.Io.KnownBytes.{Appends, Keeps};
 ghost use Rattle.tm_frame.specs.Layout.{record_length_of};
 ghost use Rattle.tm_tool.specs.Courses.{HasEnded};
 ghost use Rattle.tm_faults.specs.declared.run.RunFault.TheVariants.{Write};
-ghost use Rattle.tm_tool.specs.Listing.{IsListed, IsListing, IsListingStop, end_lines, is_good_record, listing_course, record_line};
+ghost use Rattle.tm_output.specs.declared.command.Ending.TheVariants.{Close};
+ghost use Rattle.tm_tool.specs.Listing.{IsListed, IsListing, IsListingStop, end_lines, is_good_record, listing_course, reading_line, record_line};
 ghost use Rattle.tm_tool.specs.Overviews.{Shows, source_and_drain};
 ghost use Rattle.tm_output.specs.Outputs.{Stopped, Took, line_piece, line_pieces, octets_buffering};
 ghost use Rattle.tm_output.specs.Seen.{out_alone};
@@ -15,8 +16,30 @@ use crate::record_loop::{RecordHandler, handle_records};
 use crate::{BufferedSource, DeviceFailed, Drain, Ending, RunFault, Settings};
 use std::alloc::Global;
 use tm_devices::write_all;
-use tm_frame::{Layout, read};
+use tm_frame::{Frame, FrameFault, Layout, read};
 use tm_lines::{LineBuffer, format_bad, format_frame, format_short};
+
+/// Makes the line of a record that reads so. Answers whether it is a good frame.
+#[inline(always)]
+pub(crate) fn make_reading_line(
+    line: &mut LineBuffer,
+    seen: u32,
+    reading: &Result<Frame<'_>, FrameFault>,
+) -> bool
+    ensures line { line.new ≡ reading_line seen reading.now }
+    ensures good { result ≡ is_ok reading.now }
+{
+    match reading {
+        Ok(frame) => {
+            format_frame(line, seen, frame);
+            true
+        }
+        Err(fault) => {
+            format_bad(line, seen, *fault);
+            false
+        }
+    }
+}
 
 // Makes the line of a record. Answers whether it is a good frame.
 #[inline(always)]
@@ -26,16 +49,7 @@ fn make_record_line(line: &mut LineBuffer, layout: &Layout, seen: u32, octets: &
     ensures line { line.new ≡ record_line layout.now seen octets.now }
     ensures good { result ≡ is_good_record layout.now octets.now }
 {
-    match read(layout, octets) {
-        Ok(frame) => {
-            format_frame(line, seen, &frame);
-            true
-        }
-        Err(fault) => {
-            format_bad(line, seen, fault);
-            false
-        }
-    }
+    make_reading_line(line, seen, &read(layout, octets))
 }
 
 // Writes the line of a record, of any channel. Answers whether it is a good frame. Where a write failed, a prefix of the line is written.
@@ -60,8 +74,8 @@ fn write_record_line<W: Drain>(
     Ok(good)
 }
 
-// Writes the line of octets that are left where the ending closes the recording, and flushes.
-fn write_end_line<W: Drain>(
+/// Writes the line of octets that are left where the ending closes the recording, and flushes.
+pub(crate) fn write_end_line<W: Drain>(
     line: &mut LineBuffer,
     seen: u32,
     octets: usize,
@@ -154,25 +168,24 @@ impl<W: Drain> RecordHandler for Listing<'_, W> {
     }
 }
 
-// Lists the records that the ending wants after those that are done, one at a time, through this buffer where they are not at hand.
+// Lists all records, one at a time, through this buffer where they are not at hand.
 fn list_records<R: BufferedSource, W: Drain>(
-    done: u32,
     buffer: &mut [u8],
     recording: &mut R,
     listing: &mut Listing<'_, W>,
-    ending: Ending,
 ) -> Result<Listed, RunFault>
     requires exact { length buffer.old ≡ record_length_of listing.old.layout }
     requires some { 0 < length buffer.old }
     ensures same { listing_names W.Drain listing.new ≡ listing_names W.Drain listing.old }
-    ensures runs { HasEnded Appends octets_buffering (listing_course listing.old.layout done ending)
+    ensures runs { HasEnded Appends octets_buffering (listing_course listing.old.layout 0 Close)
         (drain_devices R.BufferedSource W.Drain recording.old listing.old.out.now)
         (drain_devices R.BufferedSource W.Drain recording.new listing.new.out.now)
         (counts_good listing.old.layout) result }
     ensures flushed { OnOk result (Keeps (W.flushed listing.new.out.now) (W.written listing.new.out.now)) }
 {
+    let ending = Ending::Close;
     let mut listed = Listed {
-        records: done,
+        records: 0,
         good: 0,
     };
     let rest = match handle_records(&mut listed, buffer, recording, listing, ending) {
@@ -185,22 +198,15 @@ fn list_records<R: BufferedSource, W: Drain>(
     }
 }
 
-/// Lists the records that the ending wants after those that are done, and the octets that are left where it closes the recording.
-/// Flushes, and answers how many records are done then, and how many good frames are among those that were listed.
-///
-/// # Errors
-///
-/// As `list_recording`, and `ShortRecording` where the recording has fewer records than are done.
-pub fn list_behind<R: BufferedSource, W: Drain>(
+// Lists all records, through a buffer of its own.
+fn list_all<R: BufferedSource, W: Drain>(
     alloc: Global,
     layout: Layout,
-    done: u32,
     recording: &mut R,
     out: &mut W,
-    ending: Ending,
 ) -> Result<Listed, RunFault>
     ensures same { W.fixed out.new ≡ W.fixed out.old }
-    ensures runs { Lists layout done ending (drain_devices R.BufferedSource W.Drain recording.old out.old)
+    ensures runs { Lists layout (drain_devices R.BufferedSource W.Drain recording.old out.old)
         (drain_devices R.BufferedSource W.Drain recording.new out.new) result }
     ensures flushed { OnOk result (Keeps (W.flushed out.new) (W.written out.new)) }
 {
@@ -210,7 +216,7 @@ pub fn list_behind<R: BufferedSource, W: Drain>(
         line: LineBuffer::new(),
         out,
     };
-    list_records(done, record.as_mut_slice(), recording, &mut listing, ending)
+    list_records(record.as_mut_slice(), recording, &mut listing)
 }
 
 /// Writes a line for each record of the recording, of any channel, and one for octets that are left,
@@ -231,7 +237,7 @@ pub fn list_recording<R: BufferedSource, W: Drain>(
         (source_and_drain R.BufferedSource W.Drain recording.old out.old)
         (source_and_drain R.BufferedSource W.Drain recording.new out.new) result }
 {
-    list_behind(alloc, settings.layout(), 0, recording, out, Ending::Close)
+    list_all(alloc, settings.layout(), recording, out)
 }
 
 /// Lists a recording as `list_recording` does, and answers the number of records.

@@ -1,7 +1,8 @@
 //! A run of a job over a recording, into an outlet and a report.
 
-ghost use Rattle.std.specs.Prelude.{◌≡◌, ◌<◌, [], false, length, OnOk};
+ghost use Rattle.std.specs.Prelude.{◌≡◌, ◌<◌, ◌+◌, ◌∷◌, [], false, length, IfErr, OnOk};
 ghost use Rattle.std.specs.Io.KnownBytes.{Keeps};
+ghost use Rattle.tm_frame.specs.Fault.{frame_reading_of};
 ghost use Rattle.tm_frame.specs.Layout.{record_length_of};
 ghost use Rattle.tm_reassembly.specs.Items.{closing};
 ghost use Rattle.tm_output.specs.Outputs.{Written};
@@ -10,7 +11,7 @@ ghost use Rattle.tm_output.specs.Pieces.{noted_all, pieces_of};
 ghost use Rattle.tm_tool.specs.Runs.{kept_of};
 ghost use Rattle.tm_checkpoint.specs.Works.{IsGoing, work_of};
 ghost use Rattle.tm_tool.specs.code.Extractors.{IsReady, work_in};
-ghost use Rattle.tm_tool.specs.code.Stepping.{RunHasEnded, outlet_devices, output_devices, with_end};
+ghost use Rattle.tm_tool.specs.code.Stepping.{RefusesRecord, RunHasEnded, TakesRecords, outlet_devices, output_devices, run_fixture, run_state, with_end};
 ghost use Rattle.tm_output.specs.Totals.{no_totals};
 ghost use Rattle.tm_tool.specs.RunTotals.{absent_channels, is_absent};
 ghost use Rattle.tm_output.specs.Seen.{fixture, output_both};
@@ -18,8 +19,41 @@ ghost use Rattle.tm_output.specs.Seen.{fixture, output_both};
 use crate::extractor::Extractor;
 use crate::record_loop::{RecordHandler, handle_records};
 use crate::{BufferedSource, Drain, Ending, RunFault};
+use tm_frame::{Frame, FrameFault};
 use tm_output::{Outlet, Output, Totals};
 use tm_reassembly::{Reassembly, StepFault};
+
+/// Takes a record that is read already.
+#[inline(always)]
+pub(crate) fn handle_frame<O: Outlet, V: Drain>(
+    reassembly: &mut Reassembly,
+    reading: Result<Frame<'_>, FrameFault>,
+    octets: &[u8],
+    output: &mut Output<'_, O, V>,
+) -> Result<(), RunFault>
+    requires read { reading ≡ frame_reading_of reassembly.old.rules.layout octets.now }
+    requires ready { IsGoing reassembly.old }
+    ensures same { run_fixture O.Outlet V.Drain reassembly.new output.new
+        ≡ run_fixture O.Outlet V.Drain reassembly.old output.old }
+    ensures ready { OnOk result (IsGoing reassembly.new) }
+    ensures counted { OnOk result (reassembly.new.state.records ≡ reassembly.old.state.records + 1) }
+    ensures taken { OnOk result (TakesRecords O.grows (O.text (O.fixed output.old.outlet.now))
+        (run_state O.Outlet V.Drain reassembly.old output.old) (octets.now ∷ [])
+        (run_state O.Outlet V.Drain reassembly.new output.new)) }
+    ensures refused { IfErr result (RefusesRecord O.grows (O.text (O.fixed output.old.outlet.now)) O.buffering
+        (run_state O.Outlet V.Drain reassembly.old output.old) octets.now
+        (run_state O.Outlet V.Drain reassembly.new output.new)) }
+{
+    match reassembly.step_frame(reading, octets, output) {
+        Ok(chosen) => {
+            output.totals.add_record(chosen);
+            Ok(())
+        }
+        Err(StepFault::Sink(fault)) => Err(fault),
+        Err(StepFault::TooMany) => Err(RunFault::TooMany),
+        Err(StepFault::Failed) => unreachable!(),
+    }
+}
 
 impl<O: Outlet, V: Drain> RecordHandler for Output<'_, O, V> {
     ghost use Rattle.tm_tool.specs.code.Stepping.{RefusesRecord, RunFixture, RunState, TakesRecords, run_fixture, run_state};
@@ -51,15 +85,8 @@ impl<O: Outlet, V: Drain> RecordHandler for Output<'_, O, V> {
     }
 
     fn handle_record(&mut self, progress: &mut Reassembly, octets: &[u8]) -> Result<(), RunFault> {
-        match progress.step_record(octets, self) {
-            Ok(chosen) => {
-                self.totals.add_record(chosen);
-                Ok(())
-            }
-            Err(StepFault::Sink(fault)) => Err(fault),
-            Err(StepFault::TooMany) => Err(RunFault::TooMany),
-            Err(StepFault::Failed) => unreachable!(),
-        }
+        let reading = progress.read(octets);
+        handle_frame(progress, reading, octets, self)
     }
 
     fn flush_all(&mut self, _progress: &Reassembly) -> Result<(), RunFault> {
@@ -67,8 +94,8 @@ impl<O: Outlet, V: Drain> RecordHandler for Output<'_, O, V> {
     }
 }
 
-// Writes what the ending has after the records: a closed end has its items, and then the groups that are open.
-fn end<O: Outlet, V: Drain>(
+/// Writes what the ending has after the records: a closed end has its items, and then the groups that are open.
+pub(crate) fn end<O: Outlet, V: Drain>(
     reassembly: &Reassembly,
     rest: usize,
     output: &mut Output<'_, O, V>,
@@ -105,8 +132,8 @@ fn is_absent(reassembly: &Reassembly, channel: u8) -> bool
     reassembly.channels().has(channel) && reassembly.last_count(channel).is_none()
 }
 
-// For each channel whether it is absent.
-fn absent_channels(reassembly: &Reassembly) -> [bool; 8]
+/// For each channel whether it is absent.
+pub(crate) fn absent_channels(reassembly: &Reassembly) -> [bool; 8]
     requires going { reassembly.now.failed ≡ false }
     ensures { result ≡ absent_channels (work_of reassembly.now []) }
 {

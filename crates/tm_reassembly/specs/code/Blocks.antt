@@ -1,5 +1,5 @@
 -- What was read of a channel or of all, what is appended, and the forms of a spelling. These stand in private contracts alone.
-use Rattle.std.specs.Prelude.{◌≡◌, ℕ, ◌+◌, ◌≤◌, ◌++◌, Option, Some, None, Result, Ok, List, [], length, Vec, vec_len, vec_capacity}
+use Rattle.std.specs.Prelude.{◌≡◌, ℕ, ◌+◌, ◌-◌, ◌≤◌, ◌++◌, Option, Some, None, Result, Ok, List, [], length, take, drop, Vec, vec_len, vec_capacity}
 use Rattle.tm_reassembly.specs.declared.checkpoint.Block.{Block}
 use Rattle.tm_reassembly.specs.code.Slots.{Slot, lasts, tail_of_octets}
 use Rattle.tm_reassembly.specs.Items.{last_with}
@@ -25,6 +25,12 @@ abbrev pub KeepBlocks : Rules → ℕ → List ℕ → List Slot → ℕ → Typ
 KeepBlocks rules records xs slots octets =
     (blocks_read rules records 8 0 xs ≡ Ok (record { channels = lasts slots; octets = octets })) × (octets ≤ length xs)
 
+-- so many of these octets spell blocks
+pub record HaveBlocks (rules : Rules) (records : ℕ) (xs : List ℕ) (octets : ℕ) : Type 0 where
+  pub channels : List (Option Last)
+  pub are : blocks_read rules records 8 0 xs ≡ Ok (record { channels = channels; octets = octets })
+  pub inside : octets ≤ length xs
+
 -- the spelling of a tail, if one is held
 abbrev pub spelled_tail : Option Tail → List ℕ
 spelled_tail None = []
@@ -48,6 +54,13 @@ IsMaster form xs read =
 -- what octets spell after a number of records and a last master channel count, which the first so many octets spelled
 abbrev pub channels_decoding : ℕ → Option ℕ → ℕ → Rules → List ℕ → Result DecodedState StateFault
 channels_decoding records master octets rules xs = with_channels records master octets (blocks_read rules records 8 0 xs)
+
+-- these were read before the channels: the number of records, the last master channel count, and how many octets these are
+pub record IsFront (form : Form) (xs : List ℕ) (read : ℕ × (Option ℕ) × ℕ) : Type 0 where
+  pub same : (rules : Rules) → channels_decoding read.0 read.1 read.2 rules (take (length xs - read.2) (drop read.2 xs)) ≡ decoding_in form rules xs
+  pub count : IsCount read.1
+  pub inside : read.2 ≤ length xs
+  pub few : read.2 ≤ 6
 
 -- octets, so many, are appended, and the capacity doesn't shrink
 abbrev pub Appends : {Z : Type 0} → Vec ℕ Z → Vec ℕ Z → List ℕ → ℕ → Type 0

@@ -7,7 +7,7 @@ use Rattle.tm_devices.specs.declared.device.BufferedSource as source
 use Rattle.tm_devices.specs.declared.device.Drain as drain
 use Rattle.tm_faults.specs.declared.run.RunFault.{RunFault}
 use Rattle.tm_faults.specs.declared.run.RunFault.TheVariants.{NoMemory}
-use Rattle.tm_output.specs.declared.command.Ending.{Ending}
+use Rattle.tm_output.specs.declared.command.Ending.TheVariants.{Close}
 use Rattle.tm_tool.specs.declared.listing.Listed.{Listed}
 use Rattle.tm_tool.specs.declared.listing.Listing.{Listing}
 use Rattle.tm_tool.specs.Courses.{Devices, HasEnded, devices_at}
@@ -51,7 +51,7 @@ drain_devices r w recording out = devices_at (r.left recording) (r.failures reco
 abbrev pub counts_good : LayoutParts → Listed → ℕ → List (List ℕ) → ℕ → Type 0
 counts_good layout listed count rs rest = (listed.records ≡ count) × (listed.good ≡ count_by (is_good_record layout) rs)
 
--- how a listing of the records after those that are done ended: without memory for a record nothing was done
-abbrev pub Lists : LayoutParts → ℕ → Ending → Devices (Option (List ℕ)) → Devices (Option (List ℕ)) → Result Listed RunFault → Type 0
-Lists layout done ending old new r =
-    HasEnded Appends octets_buffering (listing_course layout done ending) old new (counts_good layout) r ⊎ ((r ≡ Err NoMemory) × (new ≡ old))
+-- how a listing of all records ended: without memory for a record nothing was done
+abbrev pub Lists : LayoutParts → Devices (Option (List ℕ)) → Devices (Option (List ℕ)) → Result Listed RunFault → Type 0
+Lists layout old new r =
+    HasEnded Appends octets_buffering (listing_course layout 0 Close) old new (counts_good layout) r ⊎ ((r ≡ Err NoMemory) × (new ≡ old))

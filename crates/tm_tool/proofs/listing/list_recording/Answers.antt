@@ -4,7 +4,7 @@ use Rattle.tm_tool.proofs.listing.list_recording.Goals as goal
 
 pub returns : goal.returns
 returns g c =
-    let told = lists_whole _ _ _ (grind (arith, c.layout.type_inv)) _ _ _ _ _ _ _ c.list_behind.ensures.runs in
+    let told = lists_whole _ _ _ (grind (arith, c.layout.type_inv)) _ _ _ _ _ _ _ c.list_all.ensures.runs in
     record {
       shown = rw (← c.layout.ensures) told.0;
       flushed = search rules;

@@ -1,6 +1,6 @@
 use Rattle.std.proofs.Common.{refl, arith}
 use Rattle.tm_reassembly.proofs.Blocks.{asked_fault, some_all}
-use Rattle.tm_reassembly.proofs.reassembly.check.Goals as goal
+use Rattle.tm_reassembly.proofs.reassembly.check_channels.Goals as goal
 
 pub returns-in-Err-clause-refused : goal.returns-in-Err-clause-refused
 returns-in-Err-clause-refused c =

@@ -1,10 +1,10 @@
 //! Where octets go that are not kept.
 
-use tm_tool::{DeviceFailed, Drain};
+use crate::{DeviceFailed, Drain};
 
 /// A drain that keeps nothing.
 #[derive(Drop)]
-pub struct Nowhere;
+pub(crate) struct Nowhere;
 
 impl Drain for Nowhere {
     ghost failures = { λ _. 0 };

@@ -1,5 +1,5 @@
 use Rattle.tm_reassembly.proofs.Blocks.{ReadsSome}
-use Rattle.tm_reassembly.proofs.reassembly.check.Given as goal
+use Rattle.tm_reassembly.proofs.reassembly.check_channels.Given as goal
 
 abbrev pub invariant-loop-channel : goal.invariant-loop-channel
 invariant-loop-channel l =

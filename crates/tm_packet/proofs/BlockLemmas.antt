@@ -27,7 +27,7 @@ entry_in_place b p key inside = get_or-map-range_with_len (λ k. get_or p (place
 -- each place is there
 pub place_inside : (b : List ℕ) (p : Entries) (key : ℕ) → AreBlocks b p → place_of b key < length p
 place_inside b p key are =
-    let most : get_or b (key / 128) 0 ≤ count_by is_made b = are.inside (key / 128) in
+    let most : get_or b (key / 128) 0 ≤ 128 * count_by is_made b = are.inside (key / 128) in
     let end : length p ≡ 128 * (1 + count_by is_made b) = are.end in
     omega arith
 
@@ -61,6 +61,8 @@ entries_none b p no_blocks no_places =
 -- blocks that were made have places of their own
 places_apart : (b : List ℕ) (p : Entries) (key other : ℕ) → AreBlocks b p → 0 < get_or b (key / 128) 0 → other ≢ key → place_of b other ≢ place_of b key
 places_apart b p key other are made apart = λ (same : place_of b other ≡ place_of b key).
+    let begin : get_or b (key / 128) 0 % 128 ≡ 0 = are.whole (key / 128) in
+    let other_begin : get_or b (other / 128) 0 % 128 ≡ 0 = are.whole (other / 128) in
     let block : get_or b (key / 128) 0 ≡ get_or b (other / 128) 0 = omega arith in
     let rest : other % 128 ≡ key % 128 = omega arith in
     let blocks : key / 128 ≡ other / 128 = are.own (key / 128) (other / 128) made block in
@@ -88,11 +90,12 @@ entries_set b p key e are inside made =
 
 -- the blocks are as they were
 pub blocks_set : (b : List ℕ) (p : Entries) (key : ℕ) (e : Option PairEntry) → AreBlocks b p → 0 < get_or b (key / 128) 0 → AreBlocks b (set p (place_of b key) e)
-blocks_set b p key e are made = record {
+blocks_set b p key e are made = let begin : get_or b (key / 128) 0 % 128 ≡ 0 = are.whole (key / 128) in record {
   all = are.all;
   end = length-set p (place_of b key) e ∙ are.end;
   empty = λ i first. get_or-set_other p (place_of b key) i e None (λ (same : i ≡ place_of b key). absurd (omega arith)) ∙ are.empty i first;
   inside = are.inside;
+  whole = are.whole;
   own = are.own;
 }
 
@@ -101,10 +104,6 @@ pub none_in_block : (b : List ℕ) (p : Entries) (key : ℕ) → AreBlocks b p �
 none_in_block b p key are inside none =
     let place : place_of b key ≡ key % 128 = omega arith in
     entry_in_place b p key inside ∙ rw place (are.empty (key % 128) (omega arith))
-
--- the number of the next block
-pub next_block : (b : List ℕ) (p : Entries) → AreBlocks b p → length p / 128 ≡ 1 + count_by is_made b
-next_block b p are = let end : length p ≡ 128 * (1 + count_by is_made b) = are.end in omega arith
 
 made_above : (n : ℕ) → 0 < n → is_made n ≡ true
 made_above n h = elim (eqb_tells n 0) [
@@ -134,7 +133,7 @@ few_blocks b p block are inside none =
     omega arith
 
 -- the entries are the same with one more block
-pub entries_with_block : (b : List ℕ) (p : Entries) (block n : ℕ) → AreBlocks b p → block < 128 → get_or b block 0 ≡ 0 → n ≡ length p / 128
+pub entries_with_block : (b : List ℕ) (p : Entries) (block n : ℕ) → AreBlocks b p → block < 128 → get_or b block 0 ≡ 0 → n ≡ length p
     → entries_of (set b block n) (p ++ replicate 128 None) ≡ entries_of b p
 entries_with_block b p block n are inside none next =
     same_entries (set b block n) b (p ++ replicate 128 None) p (λ key key_inside.
@@ -157,11 +156,11 @@ entries_with_block b p block n are inside none next =
     ])
 
 -- the blocks with one more
-pub blocks_with_block : (b : List ℕ) (p : Entries) (block n : ℕ) → AreBlocks b p → block < 128 → get_or b block 0 ≡ 0 → n ≡ length p / 128
+pub blocks_with_block : (b : List ℕ) (p : Entries) (block n : ℕ) → AreBlocks b p → block < 128 → get_or b block 0 ≡ 0 → n ≡ length p
     → AreBlocks (set b block n) (p ++ replicate 128 None)
 blocks_with_block b p block n are inside none next =
     let end : length p ≡ 128 * (1 + count_by is_made b) = are.end in
-    let number : n ≡ 1 + count_by is_made b = omega arith in
+    let number : n ≡ 128 * (1 + count_by is_made b) = omega arith in
     let more : count_by is_made (set b block n) ≡ 1 + count_by is_made b = one_more b p block n are inside none (omega arith) in
     let block_inside : block < length b = rw are.all inside in
     let new : get_or (set b block n) block 0 ≡ n = get_or-set_same b block n 0 block_inside in
@@ -174,6 +173,10 @@ blocks_with_block b p block n are inside none next =
       inside = λ x. elim (eqb_tells x block) [
         | inl same ↦ rw (same.1) (omega arith)
         | inr apart ↦ let old = get_or-set_other b block x n 0 apart.1 in let most = are.inside x in omega arith
+      ];
+      whole = λ x. elim (eqb_tells x block) [
+        | inl same ↦ rw (same.1) (omega arith)
+        | inr apart ↦ let old = get_or-set_other b block x n 0 apart.1 in let begin = are.whole x in omega arith
       ];
       own = λ x y made same. elim (eqb_tells x block) [
         | inl x_new ↦ elim (eqb_tells y block) [
@@ -200,6 +203,7 @@ blocks_none b p no_blocks no_places = record {
   end = rw (no_blocks, no_places) refl;
   empty = λ i first. rw no_places (get_or-replicate 128 i None None first);
   inside = λ x. rw no_blocks (le_trans (none_made x) (omega arith));
+  whole = λ x. let none : get_or b x 0 ≤ 0 = rw no_blocks (none_made x) in omega arith;
   own = λ x y made same. absurd (let none : get_or b x 0 ≤ 0 = rw no_blocks (none_made x) in omega arith);
 }
 
@@ -226,6 +230,6 @@ pub ruleset entry_read = (entry_in_place, place_inside, length-entries_of)
 
 pub ruleset entry_set = (entries_set, blocks_set, place_inside, made_of_some)
 
-pub ruleset block_added = (entries_with_block, blocks_with_block, few_blocks, next_block)
+pub ruleset block_added = (entries_with_block, blocks_with_block, few_blocks)
 
 pub ruleset passed = (block_passed, none_after, length-entries_of)

@@ -18,8 +18,8 @@ const BLOCK: usize = 128;
 pub struct PairTable {
     // A block without an entry, and then each block that was made.
     places: Vec<PairPlace>,
-    // For each block of keys which of those is its own: the first where none was made.
-    blocks: [u8; 128],
+    // Where the block of each 128 keys begins: at 0 where none was made.
+    blocks: [u16; 128],
 }
 
 impl Model for PairTable {
@@ -133,11 +133,11 @@ ghost use Rattle.tm_packet.specs.code.Blocks.{AreBlocks, entries_of, place_of};
 
 // Where the place of a key stands.
 #[inline(always)]
-fn place_of(blocks: &[u8; 128], key: usize) -> usize
+fn place_of(blocks: &[u16; 128], key: usize) -> usize
     requires { key < 16384 }
     ensures { result ≡ place_of blocks.now key }
 {
-    BLOCK * usize::from(blocks[key / BLOCK]) + key % BLOCK
+    usize::from(blocks[key / BLOCK]) + key % BLOCK
 }
 
 // The block without an entry. All others are reserved behind it.
@@ -155,7 +155,7 @@ fn first_block(alloc: Global) -> Result<Vec<PairPlace>, AllocError>
 #[cold]
 #[inline(never)]
 #[tactic(auto, using(crate::proofs::BlockLemmas::block_added))]
-fn add_block(blocks: &mut [u8; 128], places: &mut Vec<PairPlace>, block: usize)
+fn add_block(blocks: &mut [u16; 128], places: &mut Vec<PairPlace>, block: usize)
     requires block { block < 128 }
     requires blocks { AreBlocks blocks.old places.old.items }
     requires room { 16512 ≤ vec_capacity places.old }
@@ -165,7 +165,7 @@ fn add_block(blocks: &mut [u8; 128], places: &mut Vec<PairPlace>, block: usize)
     ensures made { 0 < slice_index_or blocks.new block 0 }
     ensures entries { entries_of blocks.new places.new.items ≡ entries_of blocks.old places.old.items }
 {
-    blocks[block] = (places.len() / BLOCK) as u8;
+    blocks[block] = places.len() as u16;
     match places.extend_from_slice(&[PairPlace::empty(); BLOCK]) {
         Ok(()) => {}
         Err(_) => unreachable!(),

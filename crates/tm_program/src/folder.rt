@@ -93,6 +93,7 @@ fn split_end(
 
 // Goes on with a job up to its ending, and gives its packets to a file for each application.
 #[tactic(auto, using(crate::proofs::BlameLemmas::split_blames))]
+#[inline(never)]
 pub(crate) fn split_packets<R: Files + AllocGlobal, S: BufferedSource, V: Drain>(
     rt: &R,
     job: Job,

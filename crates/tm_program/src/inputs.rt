@@ -1,4 +1,5 @@
-//! What is read before the recording: the settings, the definition of fields, and the checkpoint to go on from.
+//! What is read before the recording: the settings, the definition of fields, and the checkpoint to go on from. What reads a file
+//! isn't inlined, so that its stack is free again afterwards.
 
 ghost use Rattle.std.specs.Prelude.{◌≡◌, ◌⊎◌, IfErr, IfOk, IfSome, IsSome, is_some};
 ghost use Rattle.tm_arguments.specs.CommandLine.{HasNeeds, HasRequired};
@@ -17,6 +18,7 @@ use tm_files::{check_standard_error, check_streams, read_file};
 use tm_tool::{Job, Settings};
 
 // The settings in the plan's file.
+#[inline(never)]
 fn read_settings<R: Files + AllocGlobal>(rt: &R, plan: &Plan) -> Result<Settings, ToolFault>
     requires { IsSome plan.now.settings }
     ensures { IfErr result (IsOfSettings plan.now) }
@@ -29,6 +31,7 @@ fn read_settings<R: Files + AllocGlobal>(rt: &R, plan: &Plan) -> Result<Settings
 }
 
 // The definition in the plan's file.
+#[inline(never)]
 fn read_definition<R: Files + AllocGlobal>(rt: &R, plan: &Plan) -> Result<Definition, ToolFault>
     requires { IsSome plan.now.definition }
     ensures { IfErr result (IsOfDefinition plan.now) }
@@ -41,6 +44,7 @@ fn read_definition<R: Files + AllocGlobal>(rt: &R, plan: &Plan) -> Result<Defini
 }
 
 /// The job of the checkpoint that the plan goes on from, where it has one.
+#[inline(never)]
 pub fn read_resumed_job<R: Files + AllocGlobal>(
     rt: &R,
     plan: &Plan,

@@ -1,4 +1,5 @@
-//! The order of steps: the arguments, the checks, what is read and opened, the run, and the checkpoint that it leaves.
+//! The order of steps: the arguments, the checks, what is read and opened, the run, and the checkpoint that it leaves. The large
+//! steps aren't inlined, so that no other takes stack beside them.
 
 ghost use Rattle.std.specs.Prelude.{◌≡◌, ◌⊎◌, IfErr, IfOk, IfSome, MatchOption, OnOk, map, option_map, string_bytes};
 ghost use Rattle.tm_arguments.specs.CommandLine.{HasRequired};
@@ -70,6 +71,7 @@ fn list_to<S: BufferedSource, W: Drain>(
 
 // Lists the frames of a recording, or sums it up, on standard output.
 #[tactic(auto, using(tm_files::proofs::FaultLemmas::no_memory_run, crate::proofs::EndingLemmas::found_of_shown))]
+#[inline(never)]
 fn list<R: Print + AllocGlobal, S: BufferedSource>(
     rt: &R,
     overview: Overview,
@@ -89,6 +91,7 @@ fn list<R: Print + AllocGlobal, S: BufferedSource>(
 
 // Goes on with a job up to its ending, and gives its packets on standard output.
 #[tactic(auto, using(tm_files::proofs::FaultLemmas::no_memory_run, crate::proofs::BlameLemmas::run_blames, crate::proofs::BlameLemmas::no_memory_blames, crate::proofs::EndingLemmas::ran_done))]
+#[inline(never)]
 fn give_packets<R: Print + AllocGlobal, S: BufferedSource, V: Drain>(
     rt: &R,
     job: Job,
@@ -195,6 +198,7 @@ fn run_job<'p, R: Files + Print + AllocGlobal, S: BufferedSource, V: Drain>(
 
 // Checks the names of the plan's files, does its task with the recording, and answers what its job has done, if it has one.
 #[tactic(auto, using(crate::proofs::ProgramLemmas::names_come, crate::proofs::EndingLemmas::list_found))]
+#[inline(never)]
 fn run_on_recording<'p, R: Files + Print + AllocGlobal, S: BufferedSource, E: Write + Drop>(
     rt: &R,
     plan: &'p Plan,

@@ -190,13 +190,13 @@ impl<W: Write> Drain for Writing<W> {
     ghost written = { λ s. W.contents s.writer };
 
     fn write(&mut self, octets: &[u8]) -> Result<usize, DeviceFailed> {
-        match self.writer.write(octets) {
-            Ok(n) if 0 < n || octets.is_empty() => Ok(n),
-            _ => {
-                self.failed = self.failed.saturating_add(1);
-                Err(DeviceFailed)
+        if let Ok(n) = self.writer.write(octets) {
+            if 0 < n || octets.is_empty() {
+                return Ok(n);
             }
         }
+        self.failed = self.failed.saturating_add(1);
+        Err(DeviceFailed)
     }
 
     fn flush(&mut self) -> Result<(), DeviceFailed> {

@@ -113,12 +113,6 @@ pub fn format_short(line: &mut LineBuffer, seen: u32, octets: usize)
 
 // ---- packets
 
-fn type_word(telecommand: bool) -> &'static [u8; 2]
-    ensures { result.now ≡ type_word telecommand }
-{
-    if telecommand { b"tc" } else { b"tm" }
-}
-
 #[inline(always)]
 fn format_flags(line: &mut LineBuffer, flags: Flags)
     requires { 12 + length line.old ≤ 320 }
@@ -133,6 +127,42 @@ fn format_flags(line: &mut LineBuffer, flags: Flags)
     }
 }
 
+// The word of a packet's sequence flags, with what stands before and after it: one text takes fewer stores than three.
+#[inline(always)]
+fn format_packet_flags(line: &mut LineBuffer, flags: Flags)
+    requires { 26 + length line.old ≤ 320 }
+    ensures most { length line.new ≤ 26 + length line.old }
+    ensures text { line.new ≡ codes " flags=" ++ (flags_word flags ++ (codes " count=" ++ line.old)) }
+{
+    match flags {
+        Flags::Continuation => line.prepend_text(b" flags=continuation count="),
+        Flags::First => line.prepend_text(b" flags=first count="),
+        Flags::Last => line.prepend_text(b" flags=last count="),
+        Flags::Unsegmented => line.prepend_text(b" flags=unsegmented count="),
+    }
+}
+
+// The words of a packet's type and secondary header, likewise.
+#[inline(always)]
+fn format_kinds(line: &mut LineBuffer, telecommand: bool, secondary: bool)
+    requires { 28 + length line.old ≤ 320 }
+    ensures most { length line.new ≤ 28 + length line.old }
+    ensures text { line.new ≡ codes " type=" ++ (type_word telecommand
+        ++ (codes " secondary=" ++ (yes_or_no secondary ++ (codes " apid=" ++ line.old)))) }
+{
+    if telecommand {
+        if secondary {
+            line.prepend_text(b" type=tc secondary=yes apid=")
+        } else {
+            line.prepend_text(b" type=tc secondary=no apid=")
+        }
+    } else if secondary {
+        line.prepend_text(b" type=tm secondary=yes apid=")
+    } else {
+        line.prepend_text(b" type=tm secondary=no apid=")
+    }
+}
+
 // The line of a packet, from the place on.
 #[inline(always)]
 fn format_packet_end(line: &mut LineBuffer, place: u16, header: &Header, octet_count: usize)
@@ -143,15 +173,9 @@ fn format_packet_end(line: &mut LineBuffer, place: u16, header: &Header, octet_c
     line.prepend_long_number(octet_count as u64);
     line.prepend_text(b" octets=");
     line.prepend_number(u32::from(header.count()));
-    line.prepend_text(b" count=");
-    format_flags(line, header.flags());
-    line.prepend_text(b" flags=");
+    format_packet_flags(line, header.flags());
     line.prepend_number(u32::from(header.application()));
-    line.prepend_text(b" apid=");
-    format_yes_or_no(line, header.secondary());
-    line.prepend_text(b" secondary=");
-    line.prepend_text(type_word(header.telecommand()));
-    line.prepend_text(b" type=");
+    format_kinds(line, header.telecommand(), header.secondary());
     line.prepend_number(u32::from(place));
 }
 

@@ -273,9 +273,38 @@ fn append_packet(room: &mut [u8], filled: usize, packet: &Packet<'_>) -> usize
     end
 }
 
+// Writes a packet after its lead.
+#[inline(always)]
+#[tactic(auto, unfolding(crate::specs::Pieces::binary_packet))]
+fn write_led_packet<W: Drain>(out: &mut W, packet: &Packet<'_>) -> Result<(), DeviceFailed>
+    ensures same { W.fixed out.new ≡ W.fixed out.old }
+    ensures whole { OnOk result (Appends (W.written out.old) (W.written out.new) (binary_packet (item_with packet.now))) }
+    ensures prefix { OnErr result (AppendsPrefix (W.written out.old) (W.written out.new)
+        (binary_packet (item_with packet.now))) }
+    ensures counts { CountsFailures (W.failures out.old) (W.failures out.new) result }
+{
+    if let Err(fault) = write_all(out, &packet_lead(packet)) {
+        return Err(fault);
+    }
+    match write_all(out, packet.octets) {
+        Ok(()) => Ok(()),
+        Err(fault) => Err(fault),
+    }
+}
+
 /// A packet's octets in the binary form, after those that tell where it was found.
 #[derive(Drop)]
-pub struct BinaryPackets;
+pub struct BinaryPackets {
+    // Packets are put together here before they are written.
+    room: [u8; ROOM],
+}
+
+impl BinaryPackets {
+    /// Nothing is put together yet.
+    pub fn new() -> BinaryPackets {
+        BinaryPackets { room: [0; ROOM] }
+    }
+}
 
 impl PacketText for BinaryPackets {
     ghost text = { binary_packet };
@@ -289,15 +318,8 @@ impl PacketText for BinaryPackets {
     }
 
     #[inline(always)]
-    #[tactic(auto, unfolding(crate::specs::Pieces::binary_packet))]
     fn write<W: Drain>(&mut self, out: &mut W, packet: &Packet<'_>) -> Result<(), DeviceFailed> {
-        if let Err(fault) = write_all(out, &packet_lead(packet)) {
-            return Err(fault);
-        }
-        match write_all(out, packet.octets) {
-            Ok(()) => Ok(()),
-            Err(fault) => Err(fault),
-        }
+        write_led_packet(out, packet)
     }
 
     // It fills a room with packets, and writes that once the next has no room.
@@ -307,7 +329,7 @@ impl PacketText for BinaryPackets {
         limit: usize,
         span: Span<'_>,
     ) -> Result<(), DeviceFailed> {
-        let mut room = [0; ROOM];
+        let room = &mut self.room;
         let mut filled = 0;
         let mut at = 0;
         while let Some(packet) = first_packet(limit, span_from(span, at)) {
@@ -316,11 +338,11 @@ impl PacketText for BinaryPackets {
                     return Err(fault);
                 }
                 filled = 0;
-                if let Err(fault) = self.write(out, &packet) {
+                if let Err(fault) = write_led_packet(out, &packet) {
                     return Err(fault);
                 }
             } else {
-                filled = append_packet(&mut room, filled, &packet);
+                filled = append_packet(room, filled, &packet);
             }
             at += packet.octets.len();
         }

@@ -95,7 +95,7 @@ pub(crate) fn run_command<R: BufferedSource, W: Drain, V: Drain>(
         Command::BinaryPackets => {
             let mut outlet = PacketTexts {
                 out,
-                text: BinaryPackets,
+                text: BinaryPackets::new(),
             };
             run_into(extractor, recording, &mut outlet, report, ending)
         }

@@ -62,7 +62,7 @@ state_spelled _ rules octets d h e =
     let (inside, same, none) = old-spelled-again rules octets d h e in
     record { inside = inside; same = same; kept = ap (λ (m : Option ℕ). record d.state { master = m }) (sym none) }
 
--- so many of the octets that are checked
+-- a spelling isn't longer than the octets that are checked
 pub spelled_inside : (v : Version) (rules : Rules) (octets : List ℕ) (read : ℕ) → AreOctets octets → spelled_octets (state_in v rules octets) ≡ Ok read
     → read ≤ length octets
 spelled_inside v rules octets read h e = within (state_in v rules octets) refl e

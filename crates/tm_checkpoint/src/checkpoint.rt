@@ -92,7 +92,7 @@ pub fn read_checkpoint(
         return Err(CheckpointFault::State);
     };
 
-    // The entries are made before the tails: the C library keeps the pages of what is taken first from job to job.
+    // The tracker is made before the tails: glibc keeps the pages of what is taken first, for the next job.
     let tracker = match read_entries(alloc, &inner[read..]) {
         Ok(tracker) => tracker,
         Err(fault) => return Err(fault),

@@ -144,7 +144,7 @@ fn format_packet_flags(line: &mut LineBuffer, flags: Flags)
 
 // The words of a packet's type and secondary header, likewise.
 #[inline(always)]
-fn format_kinds(line: &mut LineBuffer, telecommand: bool, secondary: bool)
+fn format_type_and_secondary(line: &mut LineBuffer, telecommand: bool, secondary: bool)
     requires { 28 + length line.old ≤ 320 }
     ensures most { length line.new ≤ 28 + length line.old }
     ensures text { line.new ≡ codes " type=" ++ (type_word telecommand
@@ -175,7 +175,7 @@ fn format_packet_end(line: &mut LineBuffer, place: u16, header: &Header, octet_c
     line.prepend_number(u32::from(header.count()));
     format_packet_flags(line, header.flags());
     line.prepend_number(u32::from(header.application()));
-    format_kinds(line, header.telecommand(), header.secondary());
+    format_type_and_secondary(line, header.telecommand(), header.secondary());
     line.prepend_number(u32::from(place));
 }
 

@@ -273,12 +273,13 @@ fn append_packet(room: &mut [u8], filled: usize, packet: &Packet<'_>) -> usize
     end
 }
 
-// Writes a packet after its lead.
+// Writes a packet's lead, and then its octets.
 #[inline(always)]
 #[tactic(auto, unfolding(crate::specs::Pieces::binary_packet))]
-fn write_led_packet<W: Drain>(out: &mut W, packet: &Packet<'_>) -> Result<(), DeviceFailed>
+fn write_with_lead<W: Drain>(out: &mut W, packet: &Packet<'_>) -> Result<(), DeviceFailed>
     ensures same { W.fixed out.new ≡ W.fixed out.old }
-    ensures whole { OnOk result (Appends (W.written out.old) (W.written out.new) (binary_packet (item_with packet.now))) }
+    ensures whole { OnOk result (Appends (W.written out.old) (W.written out.new)
+        (binary_packet (item_with packet.now))) }
     ensures prefix { OnErr result (AppendsPrefix (W.written out.old) (W.written out.new)
         (binary_packet (item_with packet.now))) }
     ensures counts { CountsFailures (W.failures out.old) (W.failures out.new) result }
@@ -319,10 +320,10 @@ impl PacketText for BinaryPackets {
 
     #[inline(always)]
     fn write<W: Drain>(&mut self, out: &mut W, packet: &Packet<'_>) -> Result<(), DeviceFailed> {
-        write_led_packet(out, packet)
+        write_with_lead(out, packet)
     }
 
-    // It fills a room with packets, and writes that once the next has no room.
+    // It puts packets into the room. Where the next doesn't fit, it writes the room, and then that packet by itself.
     fn write_span<W: Drain>(
         &mut self,
         out: &mut W,
@@ -338,7 +339,7 @@ impl PacketText for BinaryPackets {
                     return Err(fault);
                 }
                 filled = 0;
-                if let Err(fault) = write_led_packet(out, &packet) {
+                if let Err(fault) = write_with_lead(out, &packet) {
                     return Err(fault);
                 }
             } else {

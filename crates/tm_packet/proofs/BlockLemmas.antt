@@ -124,7 +124,7 @@ one_more b p block n are inside none made =
     sum_by-set one_if_made b block n 0 (rw are.all inside) in
     omega (before, after, more, arith)
 
--- a block is made for keys that had none: there are 128 at most
+-- where a block isn't made, fewer than 128 are
 pub few_blocks : (b : List ℕ) (p : Entries) (block : ℕ) → AreBlocks b p → block < 128 → get_or b block 0 ≡ 0 → count_by is_made b < 128
 few_blocks b p block are inside none =
     let more : count_by is_made (set b block 1) ≡ 1 + count_by is_made b = one_more b p block 1 are inside none (omega arith) in

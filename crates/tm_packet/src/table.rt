@@ -7,10 +7,10 @@ use crate::tracker::PairEntry;
 use std::alloc::{AllocError, Global};
 use std::marker::Model;
 
-// The keys.
+// How many keys there are.
 const KEYS: usize = 16384;
 
-// The keys whose places stand together.
+// How many keys have their places together.
 const BLOCK: usize = 128;
 
 /// The entries of all pairs, at their keys. A block of places is made with its first entry.
@@ -37,7 +37,7 @@ impl Model for PairTable {
 impl PairTable {
     ghost use Rattle.tm_packet.specs.Merge.{entry_at, no_entries};
     ghost use Rattle.tm_packet.specs.Spelling.{entries_from};
-    ghost use Rattle.tm_packet.specs.Valid.{EntryFits, IsEntry};
+    ghost use Rattle.tm_packet.specs.Valid.{IsEntry};
 
     /// Without an entry. The places of all 16,384 keys are reserved at once, and none but the first block is written.
     #[tactic(auto, using(crate::proofs::BlockLemmas::no_blocks))]

@@ -76,7 +76,7 @@ impl Tracker {
     ghost use Rattle.tm_packet.specs.Spelling.{entries_spelling, spelled, entries_from, entries_decoding_of, fault_after, raws, state_of, has_values, first_count_of};
     ghost use Rattle.tm_packet.specs.declared.tracker.TrackerFault.TheVariants as fault;
 
-    /// A tracker that has taken no header. All 16,384 places are reserved at once.
+    /// A tracker that has taken no header. The places of all 16,384 keys are reserved at once.
     ///
     /// # Errors
     ///

@@ -91,9 +91,9 @@ fn split_end(
     }
 }
 
-// Goes on with a job up to its ending, and gives its packets to a file for each application.
-#[tactic(auto, using(crate::proofs::BlameLemmas::split_blames))]
+// Goes on with a job up to its ending, and gives its packets to a file for each application. Not inlined, as the large steps of `steps.rt`.
 #[inline(never)]
+#[tactic(auto, using(crate::proofs::BlameLemmas::split_blames))]
 pub(crate) fn split_packets<R: Files + AllocGlobal, S: BufferedSource, V: Drain>(
     rt: &R,
     job: Job,

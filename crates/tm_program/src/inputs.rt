@@ -1,5 +1,5 @@
 //! What is read before the recording: the settings, the definition of fields, and the checkpoint to go on from. What reads a file
-//! isn't inlined, so that its stack is free again afterwards.
+//! isn't inlined, so that it takes stack only while it reads.
 
 ghost use Rattle.std.specs.Prelude.{◌≡◌, ◌⊎◌, IfErr, IfOk, IfSome, IsSome, is_some};
 ghost use Rattle.tm_arguments.specs.CommandLine.{HasNeeds, HasRequired};

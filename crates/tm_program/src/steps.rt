@@ -1,5 +1,5 @@
-//! The order of steps: the arguments, the checks, what is read and opened, the run, and the checkpoint that it leaves. The large
-//! steps aren't inlined, so that no other takes stack beside them.
+//! The order of steps: the arguments, the checks, what is read and opened, the run, and the checkpoint that it leaves. No large step
+//! is inlined, so that each takes its stack only while it runs.
 
 ghost use Rattle.std.specs.Prelude.{◌≡◌, ◌⊎◌, IfErr, IfOk, IfSome, MatchOption, OnOk, map, option_map, string_bytes};
 ghost use Rattle.tm_arguments.specs.CommandLine.{HasRequired};
@@ -70,8 +70,8 @@ fn list_to<S: BufferedSource, W: Drain>(
 }
 
 // Lists the frames of a recording, or sums it up, on standard output.
-#[tactic(auto, using(tm_files::proofs::FaultLemmas::no_memory_run, crate::proofs::EndingLemmas::found_of_shown))]
 #[inline(never)]
+#[tactic(auto, using(tm_files::proofs::FaultLemmas::no_memory_run, crate::proofs::EndingLemmas::found_of_shown))]
 fn list<R: Print + AllocGlobal, S: BufferedSource>(
     rt: &R,
     overview: Overview,
@@ -90,8 +90,8 @@ fn list<R: Print + AllocGlobal, S: BufferedSource>(
 }
 
 // Goes on with a job up to its ending, and gives its packets on standard output.
-#[tactic(auto, using(tm_files::proofs::FaultLemmas::no_memory_run, crate::proofs::BlameLemmas::run_blames, crate::proofs::BlameLemmas::no_memory_blames, crate::proofs::EndingLemmas::ran_done))]
 #[inline(never)]
+#[tactic(auto, using(tm_files::proofs::FaultLemmas::no_memory_run, crate::proofs::BlameLemmas::run_blames, crate::proofs::BlameLemmas::no_memory_blames, crate::proofs::EndingLemmas::ran_done))]
 fn give_packets<R: Print + AllocGlobal, S: BufferedSource, V: Drain>(
     rt: &R,
     job: Job,
@@ -197,8 +197,8 @@ fn run_job<'p, R: Files + Print + AllocGlobal, S: BufferedSource, V: Drain>(
 }
 
 // Checks the names of the plan's files, does its task with the recording, and answers what its job has done, if it has one.
-#[tactic(auto, using(crate::proofs::ProgramLemmas::names_come, crate::proofs::EndingLemmas::list_found))]
 #[inline(never)]
+#[tactic(auto, using(crate::proofs::ProgramLemmas::names_come, crate::proofs::EndingLemmas::list_found))]
 fn run_on_recording<'p, R: Files + Print + AllocGlobal, S: BufferedSource, E: Write + Drop>(
     rt: &R,
     plan: &'p Plan,

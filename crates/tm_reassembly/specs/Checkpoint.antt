@@ -159,7 +159,7 @@ old_decoding_of rules xs =
     if nat_lt (length xs) 4 then Err fault.Short
     else with_channels (four_at xs 0) None 4 (blocks_read rules (four_at xs 0) 8 0 (drop 4 xs))
 
--- of what octets spell the number of octets alone
+-- of a state that was read only the number of its octets
 abbrev pub spelled_octets : Result DecodedState StateFault → Result ℕ StateFault
 spelled_octets (Ok read) = Ok read.octets
 spelled_octets (Err found) = Err found

@@ -124,7 +124,7 @@ impl Reassembly {
             (step_items self.old octets.now)) }
     {
         let reading = self.read(octets);
-        self.step_frame(reading, octets, sink)
+        self.step_reading(reading, octets, sink)
     }
 
     /// Reads the octets of a record: the good frame, or the first fault that applies.
@@ -142,7 +142,7 @@ impl Reassembly {
     ///
     /// As `step_record`.
     #[inline(always)]
-    pub fn step_frame<S: Sink>(
+    pub fn step_reading<S: Sink>(
         &mut self,
         reading: Result<Frame<'_>, FrameFault>,
         octets: &[u8],
@@ -368,8 +368,8 @@ impl Reassembly {
         decode_form(alloc, rules, Form::WithoutMaster, older)
     }
 
-    /// Checks the spelling at the beginning of these octets as `decode` does, or as `decode_old` where it is without the master channel's
-    /// count. It takes no memory. Answers the number of octets that `decode` reads.
+    /// Checks the spelling at the beginning of these octets as `decode` does, or `decode_old` where `with_master` is false. It takes no
+    /// memory. Answers the number of octets that this decoder reads.
     ///
     /// # Errors
     ///
@@ -524,7 +524,7 @@ fn eight_states(alloc: Global, limit: usize) -> Result<[ChannelState; 8], AllocE
     Ok(states_in_a_row(four_states(alloc, limit)?, four_states(alloc, limit)?))
 }
 
-// Takes a record that reads so, after `seen` that are done. Answers whether it is a good frame of a chosen channel.
+// Takes a record by its reading, after `seen` that are done. Answers whether it is a good frame of a chosen channel.
 #[inline(always)]
 fn add_record<S: Sink>(
     rules: &Rules,
@@ -536,7 +536,8 @@ fn add_record<S: Sink>(
 ) -> Result<bool, S::Fault>
     requires state { IsValidState rules.now (state_in_slots seen master.old states.old) }
     requires limit { HaveLimit rules.now.max_packet states.old }
-    ensures given { (octets : List ℕ) → frame_reading_of rules.now.layout octets ≡ reading.entry → Gives S.Sink sink.old sink.new
+    ensures given { (octets : List ℕ) → frame_reading_of rules.now.layout octets ≡ reading.entry
+        → Gives S.Sink sink.old sink.new
         (items rules.now (state_in_slots seen master.old states.old) (octets ∷ [])) result }
     ensures chosen { IfOk result (λ chosen. chosen ≡ is_chosen_reading rules.now reading.entry) }
     ensures left { OnOk result ((octets : List ℕ) → frame_reading_of rules.now.layout octets ≡ reading.entry

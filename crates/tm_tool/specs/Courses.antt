@@ -97,8 +97,8 @@ module _ {A K : Type 0} (grows : K → K → List A → Type 0) (buffering : Buf
     pub took : Took grows old mid (pieces_read c read)
     pub stopped : Stopped grows buffering mid new (c.at_end (drop c.done read) (length rest)) fault
 
-  -- Memory ran out for something else than a piece: the pieces of the whole records that were read are written, or of all but the last. Behind
-  -- those that are written these octets were read.
+  -- Memory ran out, but not for a piece: the pieces of these whole records are written, and behind them these octets were read, a record
+  -- at most.
   pub record StopsWithoutMemory (left_old left_new : Option (List ℕ)) (old new : View K) : Type 0 where
     pub read : List (List ℕ)
     pub part : List ℕ

@@ -1,4 +1,4 @@
--- A listing of a recording with which a job goes on, and gives nothing else.
+-- A listing by whose records a job goes on. The lines are all that is written.
 use Rattle.std.specs.Prelude.{false, ◌≡◌, ◌⊎◌, ℕ, List, [], option_map, Option, None, Result, IfErr, IfOk, IfSome}
 use Rattle.std.specs.Io.KnownBytes.{Appends}
 use Rattle.tm_faults.specs.declared.run.RunFault.{RunFault}
@@ -26,7 +26,7 @@ pub record ListsWithJob (ending : Ending) (job : JobState) (old new : Devices (O
   -- with Ok just the lines of what was read were written; what was read is what the ending reads
   pub listed : IfOk result (λ done. HasRun Appends octets_buffering (lines_course ending job.work) old.left new.left old.outputs new.outputs
       (λ count rs rest. done.records ≡ count))
-  -- the job is what a run of `Extract` over it keeps, whatever it writes, and the totals are those of that run
+  -- the job and the totals are those of a run of `Extract` over the same octets
   pub ran : IfOk result (λ done. Ran Appends octets_buffering (text_of Extract) ending job.work [] (devices_at old.left old.failures nowhere)
       (devices_at new.left new.failures nowhere) done.records (option_map (λ j. j.work) done.kept) done.totals)
   pub fresh : IfOk result (λ done. IfSome done.kept (λ j. j.fresh ≡ false))

@@ -55,7 +55,7 @@ impl Job {
     pub fn new(alloc: Global, settings: &Settings) -> Result<Job, NoMemory>
         ensures { IfOk result (λ job. job ≡ new_job settings.now) }
     {
-        // The C library keeps the pages of what is taken first from job to job.
+        // The tracker is made before the tails: glibc keeps the pages of what is taken first, for the next job.
         let Ok(tracker) = Tracker::new(alloc) else {
             return Err(NoMemory);
         };

@@ -19,7 +19,7 @@ use tm_devices::write_all;
 use tm_frame::{Frame, FrameFault, Layout, read};
 use tm_lines::{LineBuffer, format_bad, format_frame, format_short};
 
-/// Makes the line of a record that reads so. Answers whether it is a good frame.
+/// Makes the line of a record by its reading. Answers whether it is a good frame.
 #[inline(always)]
 pub(crate) fn make_reading_line(
     line: &mut LineBuffer,

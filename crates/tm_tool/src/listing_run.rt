@@ -1,6 +1,6 @@
 //! A line for each frame of a recording, with which a job goes on.
 
-ghost use Rattle.std.specs.Prelude.{◌≡◌, ◌<◌, [], length, OnOk};
+ghost use Rattle.std.specs.Prelude.{◌≡◌, ◌<◌, length, OnOk};
 ghost use Rattle.std.specs.Io.KnownBytes.{Keeps};
 ghost use Rattle.tm_frame.specs.Layout.{record_length_of};
 ghost use Rattle.tm_checkpoint.specs.Works.{IsGoing, work_of};
@@ -16,7 +16,7 @@ use crate::job::{Done, Job, make_done};
 use crate::listing::{make_reading_line, write_end_line};
 use crate::nowhere::Nowhere;
 use crate::record_loop::{RecordHandler, handle_records};
-use crate::recording::{absent_channels, end, handle_frame};
+use crate::recording::{absent_channels, end, handle_reading};
 use crate::{BufferedSource, Drain, Ending, RunFault};
 use tm_devices::write_all;
 use tm_lines::LineBuffer;
@@ -24,16 +24,16 @@ use tm_output::{Outlet, Output, PacketOctets, PacketTexts, Totals};
 use tm_packet::Tracker;
 use tm_reassembly::Reassembly;
 
-/// Lists records, of any channel, and a run takes them too.
+// Lists records, of any channel, and a run takes them too.
 #[derive(Drop)]
-pub(crate) struct ListingRun<'l, 'a, O, V, W> {
-    pub(crate) line: LineBuffer,
-    pub(crate) out: &'l mut W,
-    pub(crate) tracker: &'a mut Tracker,
-    pub(crate) notes: &'a mut Vec<u8>,
-    pub(crate) outlet: &'a mut O,
-    pub(crate) report: &'a mut V,
-    pub(crate) totals: Totals,
+struct ListingRun<'l, 'a, O, V, W> {
+    line: LineBuffer,
+    out: &'l mut W,
+    tracker: &'a mut Tracker,
+    notes: &'a mut Vec<u8>,
+    outlet: &'a mut O,
+    report: &'a mut V,
+    totals: Totals,
 }
 
 impl<O: Outlet, V: Drain, W: Drain> RecordHandler for ListingRun<'_, '_, O, V, W> {
@@ -77,7 +77,7 @@ impl<O: Outlet, V: Drain, W: Drain> RecordHandler for ListingRun<'_, '_, O, V, W
             report: self.report,
             totals: self.totals,
         };
-        if let Err(fault) = handle_frame(progress, reading, octets, &mut output) {
+        if let Err(fault) = handle_reading(progress, reading, octets, &mut output) {
             return Err(fault);
         }
         self.totals = output.totals;
@@ -193,7 +193,7 @@ fn list_into<R: BufferedSource, O: Outlet, V: Drain, W: Drain>(
 /// # Errors
 ///
 /// `Read` or `Write` where a call of that device failed. `ShortRecording` where there are fewer whole records than are done. `TooMany` where a
-/// whole record follows 2^32 - 1. `NoMemory` where the job can't go on without more. The job is given up.
+/// whole record follows 2^32 - 1. `NoMemory` where memory ran out. The job is given up.
 pub fn list_with_job<R: BufferedSource, W: Drain>(
     job: Job,
     recording: &mut R,

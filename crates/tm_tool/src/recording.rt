@@ -25,7 +25,7 @@ use tm_reassembly::{Reassembly, StepFault};
 
 /// Takes a record that is read already.
 #[inline(always)]
-pub(crate) fn handle_frame<O: Outlet, V: Drain>(
+pub(crate) fn handle_reading<O: Outlet, V: Drain>(
     reassembly: &mut Reassembly,
     reading: Result<Frame<'_>, FrameFault>,
     octets: &[u8],
@@ -44,7 +44,7 @@ pub(crate) fn handle_frame<O: Outlet, V: Drain>(
         (run_state O.Outlet V.Drain reassembly.old output.old) octets.now
         (run_state O.Outlet V.Drain reassembly.new output.new)) }
 {
-    match reassembly.step_frame(reading, octets, output) {
+    match reassembly.step_reading(reading, octets, output) {
         Ok(chosen) => {
             output.totals.add_record(chosen);
             Ok(())
@@ -86,7 +86,7 @@ impl<O: Outlet, V: Drain> RecordHandler for Output<'_, O, V> {
 
     fn handle_record(&mut self, progress: &mut Reassembly, octets: &[u8]) -> Result<(), RunFault> {
         let reading = progress.read(octets);
-        handle_frame(progress, reading, octets, self)
+        handle_reading(progress, reading, octets, self)
     }
 
     fn flush_all(&mut self, _progress: &Reassembly) -> Result<(), RunFault> {

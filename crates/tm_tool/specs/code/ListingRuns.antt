@@ -1,4 +1,4 @@
--- What a listing with which a run goes on does with records: for private contracts.
+-- What a `ListingRun` does with records: for private contracts.
 use Rattle.std.specs.Prelude.{◌≡◌, ◌⊎◌, ℕ, List, [], ◌∷◌, Option, Result, MatchResult}
 use Rattle.std.specs.Io.KnownBytes.{Appends}
 use Rattle.tm_checkpoint.specs.Works.{Work, work_of}

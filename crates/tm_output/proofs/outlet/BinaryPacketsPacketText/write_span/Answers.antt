@@ -4,7 +4,7 @@ use Rattle.tm_lines.specs.declared.packet.Packet as lent
 use Rattle.tm_output.specs.Packets.{item_with}
 use Rattle.tm_output.specs.Pieces.{binary_packet}
 use Rattle.tm_output.proofs.RoomLemmas.{all_written, nothing_partly, part_put, part_stopped, part_written, room_stopped, room_written, text_all, text_last, text_next}
-use Rattle.tm_output.proofs.outlet.BinaryPacketsPacketText.write_span.Goals.{then-filled-packet+in_default-write_all+in_default-write_led_packet, else-filled-packet}
+use Rattle.tm_output.proofs.outlet.BinaryPacketsPacketText.write_span.Goals.{then-filled-packet+in_default-write_all+in_default-write_with_lead, else-filled-packet}
 use Rattle.tm_output.proofs.outlet.BinaryPacketsPacketText.write_span.Goals as goal
 
 some_packet : (p : lent.Packet) → binary_packet (item_with p) ≢ []
@@ -29,14 +29,14 @@ loop-packet-preserved g c =
     ap length c.span_from.ensures.octets ∙ length-drop c.loop-packet.at c.args.span.octets.now in
     let next = text_next binary_packet c.args.limit c.args.span c.span_from.result c.loop-packet.at packet c.span_from.ensures.rest c.span_from.ensures.octets head in
     elim c.if-filled-packet.branch [
-      | then-filled-packet+in_default-write_all+in_default-write_led_packet w ↦
+      | then-filled-packet+in_default-write_all+in_default-write_with_lead w ↦
           let emptied = room_written inv.partly _ w.in_default-write_all.ensures.whole in
           record {
-            same = rw w.out-is (w.in_default-write_led_packet.ensures.same ∙ w.in_default-write_all.ensures.same ∙ inv.same);
-            counts = rw w.out-is (w.in_default-write_led_packet.ensures.counts ∙ w.in_default-write_all.ensures.counts ∙ inv.counts);
+            same = rw w.out-is (w.in_default-write_with_lead.ensures.same ∙ w.in_default-write_all.ensures.same ∙ inv.same);
+            counts = rw w.out-is (w.in_default-write_with_lead.ensures.counts ∙ w.in_default-write_all.ensures.counts ∙ inv.counts);
             inside = omega (arith, head.first.inside, far, inv.inside);
             room = omega arith;
-            partly = rw (w.out-is, w.room-is, w.filled-is) (part_written emptied _ _ next _ w.in_default-write_led_packet.ensures.whole);
+            partly = rw (w.out-is, w.room-is, w.filled-is) (part_written emptied _ _ next _ w.in_default-write_with_lead.ensures.whole);
           }
       | else-filled-packet w ↦
           record {
@@ -51,12 +51,12 @@ loop-packet-preserved g c =
 pub returns-in-Err-clause-prefix : goal.returns-in-Err-clause-prefix
 returns-in-Err-clause-prefix g c = room_stopped c.loop-packet.invariant.partly _ c.in-Err.ensures.some c.in-Err.ensures.prefix
 
-pub returns-in-Err-write_led_packet-clause-prefix : goal.returns-in-Err-write_led_packet-clause-prefix
-returns-in-Err-write_led_packet-clause-prefix g c =
+pub returns-in-Err-write_with_lead-clause-prefix : goal.returns-in-Err-write_with_lead-clause-prefix
+returns-in-Err-write_with_lead-clause-prefix g c =
     let emptied = room_written c.loop-packet.invariant.partly _ c.in_default-write_all.ensures.whole in
     let next =
     text_next binary_packet c.args.limit c.args.span c.span_from.result c.loop-packet.at c.in-Some.packet c.span_from.ensures.rest c.span_from.ensures.octets c.in-Some.ensures.some in
-    part_stopped emptied _ _ next _ (some_packet c.in-Some.packet) c.in-Err-write_led_packet.ensures.prefix
+    part_stopped emptied _ _ next _ (some_packet c.in-Some.packet) c.in-Err-write_with_lead.ensures.prefix
 
 pub returns-in-Ok-clause-whole : goal.returns-in-Ok-clause-whole
 returns-in-Ok-clause-whole g c =

@@ -6,7 +6,7 @@ use Rattle.tm_reassembly.specs.Steps.{Progress}
 use Rattle.tm_reassembly.specs.Valid.{IsValidState}
 use Rattle.tm_reassembly.proofs.Slots.{capacities_of_eight}
 use Rattle.tm_reassembly.proofs.States.{record-valid}
-use Rattle.tm_reassembly.proofs.reassembly.Reassembly.step_frame.Goals as goal
+use Rattle.tm_reassembly.proofs.reassembly.Reassembly.step_reading.Goals as goal
 
 pub invariant_of-self : goal.invariant_of-self
 invariant_of-self g c = λ failed.

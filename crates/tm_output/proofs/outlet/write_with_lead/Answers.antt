@@ -2,7 +2,7 @@ use Rattle.std.proofs.Common.{[], ◌++◌, ap, append-nil, length, refl, sym}
 use Rattle.std.proofs.KnownBytes.{Appends-nil, Appends-trans}
 use Rattle.tm_output.proofs.RoomLemmas.{stopped_in}
 use Rattle.tm_output.specs.Pieces.{binary_packet, packet_lead}
-use Rattle.tm_output.proofs.outlet.write_led_packet.Goals as goal
+use Rattle.tm_output.proofs.outlet.write_with_lead.Goals as goal
 
 pub returns-in-Err-clause-prefix : goal.returns-in-Err-clause-prefix
 unfolding binary_packet

@@ -1,4 +1,4 @@
-use Rattle.tm_lines.proofs.lines.format_kinds.Goals as goal
+use Rattle.tm_lines.proofs.lines.format_type_and_secondary.Goals as goal
 
 pub returns-then-secondary-clause-text : goal.returns-then-secondary-clause-text
 returns-then-secondary-clause-text c = rw (c.if-telecommand.true, c.if-secondary.true) c.prepend_text.ensures.text

@@ -8,7 +8,7 @@ use Rattle.tm_checkpoint.specs.Works.{Work, work_of}
 use Rattle.tm_tool.proofs.Counted.{record_counted}
 use Rattle.tm_tool.proofs.Running.{records-counted, stepped_on}
 use Rattle.tm_tool.proofs.Sinks.{took_all, stopped_among}
-use Rattle.tm_tool.proofs.recording.handle_frame.Goals as goal
+use Rattle.tm_tool.proofs.recording.handle_reading.Goals as goal
 
 pub returns-in-Ok : goal.returns-in-Ok
 returns-in-Ok g c =

@@ -2,7 +2,6 @@ pub mod Pairs
 pub mod Merging
 pub mod States
 pub mod TableLemmas
-pub mod BlockLemmas
 pub mod AfterValid
 pub mod HeaderLemmas
 pub mod RoundTrip

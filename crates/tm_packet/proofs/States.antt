@@ -1,5 +1,5 @@
 -- The states that the code makes are valid.
-use Rattle.std.proofs.Common.{◌≡◌, ℕ, ◌+◌, ◌-◌, ◌*◌, zero, suc, Option, None, [], ◌++◌, length, get_or, take, refl, sym, subst}
+use Rattle.std.proofs.Common.{◌≡◌, ℕ, ◌+◌, ◌*◌, zero, suc, Option, None, length, get_or, refl, sym, subst}
 use Rattle.std.proofs.Math.ListN.{replicate}
 use Rattle.std.proofs.lemmas.List.{length-replicate}
 use Rattle.tm_packet.specs.declared.tracker.PairEntry.{PairEntry}
@@ -27,6 +27,3 @@ valid-none = record { places = length-no_entries; fit = λ key. none_fits (entry
 
 pub valid_empty : (s : Entries) → s ≡ no_entries → AreValidEntries s
 valid_empty s h = rw h valid-none
-
-pub filled : (xs : Entries) (n : ℕ) → xs ≡ [] → n ≡ 0 → take 128 xs ++ replicate (128 - n) None ≡ replicate 128 None
-filled xs n e h = rw (e, h) refl

@@ -1,4 +1,4 @@
-//! What is kept of all pairs: a place for each key, in blocks that are made with their first entry.
+//! What is kept of all pairs: places for the keys up to the greatest that had an entry. Marks let a walk pass over places without one.
 
 ghost use Rattle.std.specs.Prelude.{◌≡◌, ◌≢◌, ◌+◌, ◌*◌, ◌<◌, ◌≤◌, IfOk, IfSome, Some, None, [], ◌∷◌, drop, length, slice_set};
 
@@ -10,28 +10,28 @@ use std::marker::Model;
 // How many keys there are.
 const KEYS: usize = 16384;
 
-// How many keys have their places together.
-const BLOCK: usize = 128;
+// How many keys have a mark together.
+const BLOCK: usize = 64;
 
-/// The entries of all pairs, at their keys. A block of places is made with its first entry.
+/// The entries of all pairs, at their keys.
 #[derive(Drop)]
 pub struct PairTable {
-    // A block without an entry, and then each block that was made.
+    // The places of the first keys. All others have no entry.
     places: Vec<PairPlace>,
-    // Where the block of each 128 keys begins: at 0 where none was made.
-    blocks: [u16; 128],
+    // For each block of keys whether an entry may stand there.
+    marks: [bool; 256],
 }
 
 impl Model for PairTable {
     ghost use Rattle.std.specs.Prelude.{◌≤◌, vec_capacity};
     ghost use Rattle.tm_packet.specs.Merge.{Entries};
-    ghost use Rattle.tm_packet.specs.code.Blocks.{AreBlocks, entries_of};
+    ghost use Rattle.tm_packet.specs.code.Blocks.{AreKept, entries_of};
 
     ghost Value = { Entries };
 
-    ghost view = { λ t. entries_of t.blocks t.places.items };
+    ghost view = { λ t. entries_of t.places.items };
 
-    ghost invariant = { λ t. AreBlocks t.blocks t.places.items × (16512 ≤ vec_capacity t.places) };
+    ghost invariant = { λ t. AreKept t.marks t.places.items × (16384 ≤ vec_capacity t.places) };
 }
 
 impl PairTable {
@@ -39,55 +39,60 @@ impl PairTable {
     ghost use Rattle.tm_packet.specs.Spelling.{entries_from};
     ghost use Rattle.tm_packet.specs.Valid.{IsEntry};
 
-    /// Without an entry. The places of all 16,384 keys are reserved at once, and none but the first block is written.
-    #[tactic(auto, using(crate::proofs::BlockLemmas::no_blocks))]
+    /// Without an entry. The places of all 16,384 keys are reserved at once, and none is made.
+    #[tactic(auto, using(crate::proofs::TableLemmas::no_places, crate::proofs::TableLemmas::kept))]
     pub fn new(alloc: Global) -> Result<PairTable, AllocError>
         ensures { IfOk result (λ table. table ≡ no_entries) }
     {
         Ok(PairTable {
-            places: first_block(alloc)?,
-            blocks: [0; 128],
+            places: Vec::with_capacity(alloc, KEYS)?,
+            marks: [false; 256],
         })
     }
 
     /// The entry of a key, if there is one.
     #[inline(always)]
-    #[tactic(auto, using(crate::proofs::BlockLemmas::entry_read))]
+    #[tactic(auto, using(crate::proofs::TableLemmas::placed))]
     pub fn entry(&self, key: usize) -> Option<PairEntry>
         requires { key < 16384 }
         ensures value { result ≡ entry_at self.now key }
         ensures inside { key < length self.now }
     {
-        self.places[place_of(&self.blocks, key)].entry()
+        if key < self.places.len() {
+            self.places[key].entry()
+        } else {
+            None
+        }
     }
 
     /// Puts another entry in the place of one.
     #[inline(always)]
-    #[tactic(auto, using(crate::proofs::BlockLemmas::entry_set))]
+    #[tactic(auto, using(crate::proofs::TableLemmas::kept, crate::proofs::TableLemmas::placed))]
     pub fn change(&mut self, key: usize, entry: PairEntry)
         requires key { key < 16384 }
         requires some { entry_at self.old key ≢ None }
         requires entry { IsEntry entry }
         ensures { self.new ≡ slice_set self.old key (Some entry) }
     {
-        self.places[place_of(&self.blocks, key)] = PairPlace::of(entry);
+        self.places[key] = PairPlace::of(entry);
     }
 
     /// Puts an entry at its key.
-    #[tactic(auto, using(crate::proofs::BlockLemmas::entry_set))]
+    #[tactic(auto, using(crate::proofs::TableLemmas::kept, crate::proofs::TableLemmas::placed))]
     pub fn put(&mut self, key: usize, entry: PairEntry)
         requires key { key < 16384 }
         requires entry { IsEntry entry }
         ensures { self.new ≡ slice_set self.old key (Some entry) }
     {
-        if self.blocks[key / BLOCK] == 0 {
-            add_block(&mut self.blocks, &mut self.places, key / BLOCK);
+        if self.places.len() <= key {
+            make_places(&mut self.places, key + 1);
         }
-        self.places[place_of(&self.blocks, key)] = PairPlace::of(entry);
+        self.marks[key / BLOCK] = true;
+        self.places[key] = PairPlace::of(entry);
     }
 
-    /// The first entry from a key on, with its key. Blocks that weren't made are passed over.
-    #[tactic(auto, using(crate::proofs::BlockLemmas::passed))]
+    /// The first entry from a key on, with its key. Blocks without a mark are passed over.
+    #[tactic(auto, using(crate::proofs::TableLemmas::passed))]
     pub fn next_entry(&self, at: usize) -> Option<(usize, PairEntry)>
         ensures none { result ≡ None → entries_from at (drop at self.now) ≡ [] }
         ensures found { IfSome result (λ found. entries_from at (drop at self.now)
@@ -98,7 +103,7 @@ impl PairTable {
         let mut from = at;
         for block in at / BLOCK..KEYS / BLOCK {
             let end = BLOCK * (block + 1);
-            if self.blocks[block] != 0 {
+            if self.marks[block] {
                 let found = self.next_entry_until(from, end);
                 if found.is_some() {
                     return found;
@@ -128,45 +133,22 @@ impl PairTable {
     }
 }
 
-ghost use Rattle.std.specs.Prelude.{slice_index_or, vec_capacity, replicate};
-ghost use Rattle.tm_packet.specs.code.Blocks.{AreBlocks, entries_of, place_of};
+ghost use Rattle.std.specs.Prelude.{vec_capacity};
+ghost use Rattle.tm_packet.specs.code.Blocks.{entries_of};
 
-// Where the place of a key stands.
-#[inline(always)]
-fn place_of(blocks: &[u16; 128], key: usize) -> usize
-    requires { key < 16384 }
-    ensures { result ≡ place_of blocks.now key }
-{
-    usize::from(blocks[key / BLOCK]) + key % BLOCK
-}
-
-// The block without an entry. All others are reserved behind it.
-#[tactic(auto, using(crate::proofs::States::filled))]
-fn first_block(alloc: Global) -> Result<Vec<PairPlace>, AllocError>
-    ensures none { IfOk result (λ places. places.items ≡ replicate 128 None) }
-    ensures room { IfOk result (λ places. 16512 ≤ vec_capacity places) }
-{
-    let mut places = Vec::with_capacity(alloc, KEYS + BLOCK)?;
-    places.resize(BLOCK, PairPlace::empty())?;
-    Ok(places)
-}
-
-// Makes the block of places for a block of keys.
+// Makes places up to this many, for which there is room.
 #[cold]
 #[inline(never)]
-#[tactic(auto, using(crate::proofs::BlockLemmas::block_added))]
-fn add_block(blocks: &mut [u16; 128], places: &mut Vec<PairPlace>, block: usize)
-    requires block { block < 128 }
-    requires blocks { AreBlocks blocks.old places.old.items }
-    requires room { 16512 ≤ vec_capacity places.old }
-    requires none { slice_index_or blocks.old block 0 ≡ 0 }
-    ensures blocks { AreBlocks blocks.new places.new.items }
-    ensures room { 16512 ≤ vec_capacity places.new }
-    ensures made { 0 < slice_index_or blocks.new block 0 }
-    ensures entries { entries_of blocks.new places.new.items ≡ entries_of blocks.old places.old.items }
+#[tactic(auto, using(crate::proofs::TableLemmas::more_places))]
+fn make_places(places: &mut Vec<PairPlace>, many: usize)
+    requires more { length places.old.items ≤ many }
+    requires most { many ≤ 16384 }
+    requires room { 16384 ≤ vec_capacity places.old }
+    ensures many { length places.new.items ≡ many }
+    ensures room { 16384 ≤ vec_capacity places.new }
+    ensures entries { entries_of places.new.items ≡ entries_of places.old.items }
 {
-    blocks[block] = places.len() as u16;
-    match places.extend_from_slice(&[PairPlace::empty(); BLOCK]) {
+    match places.resize(many, PairPlace::empty()) {
         Ok(()) => {}
         Err(_) => unreachable!(),
     }

@@ -124,6 +124,7 @@ fn read_inputs<'p, R: Files + AllocGlobal>(rt: &R, plan: &'p Plan) -> Result<Inp
 }
 
 /// Checks the standard streams, standard error first, and then reads the files of the plan but for the recording.
+#[inline(never)]
 #[tactic(auto, using(crate::proofs::ProgramLemmas::errors_come, crate::proofs::ProgramLemmas::streams_come, crate::proofs::ProgramLemmas::definition_comes, crate::proofs::ProgramLemmas::resumed_comes, crate::proofs::ProgramLemmas::settings_come))]
 pub(crate) fn prepare_inputs<'p, R: Files + Print + AllocGlobal, E: Write>(
     rt: &R,

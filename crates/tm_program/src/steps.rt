@@ -272,6 +272,7 @@ fn run_plan<R: Files + Input + Print + AllocGlobal, E: Write + Drop>(
 /// # Errors
 ///
 /// `Usage` where the arguments are no plan; else a fault of a file that the plan names, of what the file says, or of the run.
+#[inline(never)]
 #[tactic(auto, using(crate::proofs::ProgramLemmas::plan_ends))]
 pub fn run<R: Files + Input + Print + AllocGlobal, E: Write + Drop>(
     rt: &R,

@@ -9,7 +9,7 @@ use Rattle.tm_packet.specs.declared.notes.Why.TheVariants as why
 use Rattle.tm_packet.specs.declared.tracker.Unclosed.{Unclosed}
 use Rattle.tm_packet.specs.Merge.{Entries, no_entries, unclosed, unclosed_with, next_unclosed_of}
 use Rattle.tm_packet.specs.Spelling.{KeyedEntry, entries_from}
-use Rattle.tm_packet.specs.code.Blocks.{AreKept, AreMarked, entries_of}
+use Rattle.tm_packet.specs.code.Blocks.{IsTable, AreMarked, entries_of}
 use Rattle.tm_packet.proofs.States.{none_at}
 
 some_not_none : (e : PairEntry) → Some e ≡ None → ⊥
@@ -114,12 +114,12 @@ entries_set p key e inside =
     rw (length-set p key e) (sym (set-append_left p (replicate (16384 - length p) None) key e inside))
 
 -- without a place
-pub kept_none : (marks : List Bool) (p : Entries) → length marks ≡ 256 → p ≡ [] → AreKept marks p
+pub kept_none : (marks : List Bool) (p : Entries) → length marks ≡ 256 → p ≡ [] → IsTable marks p
 kept_none marks p all none = record { most = rw none (omega arith); all = all; marked = rw (entries_none p none) (marked_none marks) }
 
 -- an entry is put in a place, and its block marked
-pub kept_put : (marks : List Bool) (p : Entries) (block key : ℕ) (e : Option PairEntry) → AreKept marks p → key < length p → block ≡ key / 64
-    → AreKept (set marks block true) (set p key e)
+pub kept_put : (marks : List Bool) (p : Entries) (block key : ℕ) (e : Option PairEntry) → IsTable marks p → key < length p → block ≡ key / 64
+    → IsTable (set marks block true) (set p key e)
 kept_put marks p block key e kept inside at =
     let most : length p ≤ 16384 = kept.most in
     let all : length marks ≡ 256 = kept.all in
@@ -130,8 +130,8 @@ kept_put marks p block key e kept inside at =
     }
 
 -- an entry is put in the place of one
-pub kept_change : (marks : List Bool) (p : Entries) (key : ℕ) (e : Option PairEntry) → AreKept marks p → key < 16384 → get_or (entries_of p) key None ≢ None
-    → AreKept marks (set p key e)
+pub kept_change : (marks : List Bool) (p : Entries) (key : ℕ) (e : Option PairEntry) → IsTable marks p → key < 16384 → get_or (entries_of p) key None ≢ None
+    → IsTable marks (set p key e)
 kept_change marks p key e kept inside some = record {
   most = rw (length-set p key e) kept.most;
   all = kept.all;
@@ -139,11 +139,11 @@ kept_change marks p key e kept inside some = record {
 }
 
 -- the entries are the same in more places
-pub kept_more : (marks : List Bool) (p q : Entries) → AreKept marks p → length q ≤ 16384 → entries_of q ≡ entries_of p → AreKept marks q
+pub kept_more : (marks : List Bool) (p q : Entries) → IsTable marks p → length q ≤ 16384 → entries_of q ≡ entries_of p → IsTable marks q
 kept_more marks p q kept most same = record { most = most; all = kept.all; marked = rw same kept.marked }
 
 -- the rest of a block without a mark
-pub kept_passed : (marks : List Bool) (p : Entries) (block at : ℕ) → AreKept marks p → get_or marks block false ≡ false → at / 64 ≡ block
+pub kept_passed : (marks : List Bool) (p : Entries) (block at : ℕ) → IsTable marks p → get_or marks block false ≡ false → at / 64 ≡ block
     → entries_from at (drop at (entries_of p)) ≡ entries_from (64 * (block + 1)) (drop (64 * (block + 1)) (entries_of p))
 kept_passed marks p block at kept unmarked h = block_passed marks (entries_of p) block at kept.marked unmarked h
 

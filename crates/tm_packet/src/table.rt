@@ -25,13 +25,13 @@ pub struct PairTable {
 impl Model for PairTable {
     ghost use Rattle.std.specs.Prelude.{◌≤◌, vec_capacity};
     ghost use Rattle.tm_packet.specs.Merge.{Entries};
-    ghost use Rattle.tm_packet.specs.code.Blocks.{AreKept, entries_of};
+    ghost use Rattle.tm_packet.specs.code.Blocks.{IsTable, entries_of};
 
     ghost Value = { Entries };
 
     ghost view = { λ t. entries_of t.places.items };
 
-    ghost invariant = { λ t. AreKept t.marks t.places.items × (16384 ≤ vec_capacity t.places) };
+    ghost invariant = { λ t. IsTable t.marks t.places.items × (16384 ≤ vec_capacity t.places) };
 }
 
 impl PairTable {

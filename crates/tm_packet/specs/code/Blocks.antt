@@ -11,7 +11,7 @@ pub record AreMarked (marks : List Bool) (entries : Entries) : Type 0 where
   pub none : (key : ℕ) → slice_index_or marks (key / 64) false ≡ false → entry_at entries key ≡ None
 
 -- places of some keys, and marks of all blocks
-pub record AreKept (marks : List Bool) (places : Entries) : Type 0 where
+pub record IsTable (marks : List Bool) (places : Entries) : Type 0 where
   pub most : length places ≤ 16384
   pub all : length marks ≡ 256
   pub marked : AreMarked marks (entries_of places)

@@ -231,18 +231,20 @@ fn run_on_recording<'p, R: Files + Print + AllocGlobal, S: BufferedSource, E: Wr
     }
 }
 
-// Reads the files of the plan, does what it asks for, and answers what came of the run.
+// Does what the plan asks for, once its files are read, and answers what came of the run.
+#[inline(never)]
 #[tactic(auto, using(tm_files::proofs::FaultLemmas::no_memory_run, crate::proofs::ProgramLemmas::file_comes, crate::proofs::ProgramLemmas::outputs_come, crate::proofs::ProgramLemmas::run_comes))]
-fn run_plan<R: Files + Input + Print + AllocGlobal, E: Write + Drop>(
+fn run_prepared<R: Files + Input + Print + AllocGlobal, E: Write + Drop>(
     rt: &R,
     plan: &Plan,
+    inputs: Inputs<'_>,
     errors: &mut E,
 ) -> Result<ProgramOutcome, ToolFault>
-    requires { HasRequired plan.now }
+    requires { IsTask plan.now inputs.settings inputs.task }
     ensures ok { IfOk result (λ outcome. AreClear plan.now × HasFound plan.now outcome) }
     ensures refused { IfErr result (MayCome plan.now) }
 {
-    let Inputs { settings, task } = prepare_inputs(rt, plan, errors)?;
+    let Inputs { settings, task } = inputs;
     let finished = match choose_recording(plan) {
         Recording::File(name) => match open_recording(rt, name) {
             Ok(mut source) => run_on_recording(rt, plan, &settings, task, &mut source, errors),
@@ -266,13 +268,28 @@ fn run_plan<R: Files + Input + Print + AllocGlobal, E: Write + Drop>(
     }
 }
 
+// Reads the files of the plan, does what it asks for, and answers what came of the run.
+fn run_plan<R: Files + Input + Print + AllocGlobal, E: Write + Drop>(
+    rt: &R,
+    plan: &Plan,
+    errors: &mut E,
+) -> Result<ProgramOutcome, ToolFault>
+    requires { HasRequired plan.now }
+    ensures ok { IfOk result (λ outcome. AreClear plan.now × HasFound plan.now outcome) }
+    ensures refused { IfErr result (MayCome plan.now) }
+{
+    match prepare_inputs(rt, plan, errors) {
+        Ok(inputs) => run_prepared(rt, plan, inputs, errors),
+        Err(fault) => Err(fault),
+    }
+}
+
 /// Does what these arguments of the command line ask for, and answers what came of the run: what it found, and whether its status is to say so.
 /// A report that has no file goes to `errors`, all of it before this returns.
 ///
 /// # Errors
 ///
 /// `Usage` where the arguments are no plan; else a fault of a file that the plan names, of what the file says, or of the run.
-#[inline(never)]
 #[tactic(auto, using(crate::proofs::ProgramLemmas::plan_ends))]
 pub fn run<R: Files + Input + Print + AllocGlobal, E: Write + Drop>(
     rt: &R,

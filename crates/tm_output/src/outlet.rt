@@ -259,18 +259,38 @@ fn packet_lead(packet: &Packet<'_>) -> [u8; 16]
 // How many octets are put together before they are written: as many as the packets of most data fields have with their leads.
 const ROOM: usize = 2048;
 
-// Appends a packet with its lead to the octets that a room has, and answers how many they are then.
+// How many octets are copied of a packet that is short, whatever it has: a number that is known is copied without a call.
+const SHORT: usize = 64;
+
+// Puts this many of the first octets at a place of a room. What the room has after them doesn't matter.
 #[inline(always)]
-fn append_packet(room: &mut [u8], filled: usize, packet: &Packet<'_>) -> usize
-    requires { filled + (16 + length packet.now.octets.now) ≤ length room.old }
+fn put_first(room: &mut [u8], at: usize, octets: &[u8], many: usize)
+    requires inside { many ≤ length octets.now }
+    requires room { at + many ≤ length room.old }
+    ensures put { take (at + many) room.new ≡ take at room.old ++ take many octets.now }
+{
+    if many <= SHORT && SHORT <= octets.len() && SHORT <= room.len() - at {
+        room[at..at + SHORT].copy_from_slice(&octets[..SHORT]);
+    } else {
+        room[at..at + many].copy_from_slice(&octets[..many]);
+    }
+}
+
+// Appends a packet with its lead to the octets that a room has, and answers how many they are then. The packet stands first in the rest of
+// its span.
+#[inline(always)]
+fn append_packet(room: &mut [u8], filled: usize, packet: &Packet<'_>, rest: &[u8]) -> usize
+    requires room { filled + (16 + length packet.now.octets.now) ≤ length room.old }
+    requires inside { length packet.now.octets.now ≤ length rest.now }
+    requires first { packet.now.octets.now ≡ take (length packet.now.octets.now) rest.now }
     ensures filled { result ≡ filled + (16 + length packet.now.octets.now) }
     ensures put { take result room.new ≡ take filled room.old ++ binary_packet (item_with packet.now) }
 {
     let begin = filled + 16;
-    let end = begin + packet.octets.len();
+    let many = packet.octets.len();
     room[filled..begin].copy_from_slice(&packet_lead(packet));
-    room[begin..end].copy_from_slice(packet.octets);
-    end
+    put_first(room, begin, rest, many);
+    begin + many
 }
 
 // Writes a packet's lead, and then its octets.
@@ -343,7 +363,7 @@ impl PacketText for BinaryPackets {
                     return Err(fault);
                 }
             } else {
-                filled = append_packet(room, filled, &packet);
+                filled = append_packet(room, filled, &packet, &span.octets[at..]);
             }
             at += packet.octets.len();
         }

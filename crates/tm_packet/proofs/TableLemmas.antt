@@ -1,6 +1,5 @@
--- The entries of blocks with marks, and walks that pass over the others.
+-- Places of the first keys, marks of blocks, and walks that pass over blocks without a mark and end after the last place.
 use Rattle.std.proofs.Common.{◌≡◌, ◌≢◌, ℕ, zero, suc, ◌+◌, ◌-◌, ◌*◌, ◌/◌, ◌<◌, ◌≤◌, Bool, true, false, Some, None, List, [], ◌∷◌, ◌++◌, Option, length, take, drop, get_or, set, inl, inr, refl, sym, ap, ◌∙◌, arith}
-use Rattle.std.proofs.lemmas.Bool.{cases_lt}
 use Rattle.std.proofs.Math.ListN.{replicate}
 use Rattle.std.proofs.lemmas.List.{get_or-set_same, get_or-set_other, get_or_append_left, get_or-append_right, get_or-replicate, length-append, length-replicate, length-set, replicate-append-replicate, set-append_left, append_assoc, take_all}
 use Rattle.tm_packet.specs.declared.tracker.PairEntry.{PairEntry}
@@ -44,12 +43,16 @@ block_passed marks s block at marked unmarked h =
     marked.none (at + i) (rw same unmarked))
     ∙ ap (λ n. entries_from n (drop n s)) all
 
--- after the last place
-pub none_after : (at k : ℕ) (s : Entries) → length s ≤ at → entries_from k (drop at s) ≡ []
-none_after zero k [] h = refl
-none_after (suc at) k [] h = refl
-none_after zero k (x ∷ s) h = absurd (omega arith)
-none_after (suc at) k (x ∷ s) h = none_after at k s (omega arith)
+-- keys without an entry
+none_of : (n k : ℕ) → entries_from k (replicate n None) ≡ []
+none_of zero k = refl
+none_of (suc n) k = none_of n (k + 1)
+
+-- what is left of them
+none_left : (n at k : ℕ) → entries_from k (drop at (replicate n None)) ≡ []
+none_left n zero k = none_of n k
+none_left zero (suc at) k = refl
+none_left (suc n) (suc at) k = none_left n at k
 
 marked_none : (marks : List Bool) → AreMarked marks no_entries
 marked_none marks = record { none = λ key h. none_at key }
@@ -100,12 +103,9 @@ entry_nowhere p key after inside =
     get_or-append_right p (replicate (16384 - length p) None) (length p) key None refl after
     ∙ get_or-replicate (16384 - length p) (key - length p) None None (omega arith)
 
--- a key with an entry has a place
-pub place_of_some : (p : Entries) (key : ℕ) → key < 16384 → get_or (entries_of p) key None ≢ None → key < length p
-place_of_some p key inside some = elim (cases_lt key (length p)) [
-  | inl made ↦ made
-  | inr none ↦ absurd (some (entry_nowhere p key none inside))
-]
+-- it has no entry
+pub nowhere_some : (p : Entries) (key : ℕ) (e : PairEntry) → length p ≤ key → key < 16384 → get_or (entries_of p) key None ≡ Some e → false ≡ true
+nowhere_some p key e after inside some = absurd (some_not_none e (sym some ∙ entry_nowhere p key after inside))
 
 -- an entry is put in a place
 pub entries_set : (p : Entries) (key : ℕ) (e : Option PairEntry) → key < length p → entries_of (set p key e) ≡ set (entries_of p) key e
@@ -114,38 +114,50 @@ entries_set p key e inside =
     rw (length-set p key e) (sym (set-append_left p (replicate (16384 - length p) None) key e inside))
 
 -- without a place
-pub kept_none : (marks : List Bool) (p : Entries) → length marks ≡ 256 → p ≡ [] → IsTable marks p
-kept_none marks p all none = record { most = rw none (omega arith); all = all; marked = rw (entries_none p none) (marked_none marks) }
+pub table_none : (marks : List Bool) (p : Entries) → length marks ≡ 256 → p ≡ [] → IsTable marks p
+table_none marks p all none = record { most = rw none (omega arith); all = all; marked = rw (entries_none p none) (marked_none marks) }
 
 -- an entry is put in a place, and its block marked
-pub kept_put : (marks : List Bool) (p : Entries) (block key : ℕ) (e : Option PairEntry) → IsTable marks p → key < length p → block ≡ key / 64
+pub table_put : (marks : List Bool) (p : Entries) (block key : ℕ) (e : Option PairEntry) → IsTable marks p → key < length p → block ≡ key / 64
     → IsTable (set marks block true) (set p key e)
-kept_put marks p block key e kept inside at =
-    let most : length p ≤ 16384 = kept.most in
-    let all : length marks ≡ 256 = kept.all in
+table_put marks p block key e table inside at =
+    let most : length p ≤ 16384 = table.most in
+    let all : length marks ≡ 256 = table.all in
     record {
       most = rw (length-set p key e) most;
       all = length-set marks block true ∙ all;
-      marked = rw (entries_set p key e inside) (marked_put marks (entries_of p) block key e kept.marked at (omega arith));
+      marked = rw (entries_set p key e inside) (marked_put marks (entries_of p) block key e table.marked at (omega arith));
     }
 
 -- an entry is put in the place of one
-pub kept_change : (marks : List Bool) (p : Entries) (key : ℕ) (e : Option PairEntry) → IsTable marks p → key < 16384 → get_or (entries_of p) key None ≢ None
-    → IsTable marks (set p key e)
-kept_change marks p key e kept inside some = record {
-  most = rw (length-set p key e) kept.most;
-  all = kept.all;
-  marked = rw (entries_set p key e (place_of_some p key inside some)) (marked_change marks (entries_of p) key e kept.marked some);
-}
+pub table_change : (marks : List Bool) (p : Entries) (key : ℕ) (before : PairEntry) (e : Option PairEntry) → IsTable marks p → key < length p
+    → get_or p key None ≡ Some before → IsTable marks (set p key e)
+table_change marks p key before e table inside stood =
+    let some : get_or (entries_of p) key None ≢ None = (λ none. some_not_none before (sym stood ∙ sym (entry_in_place p key inside) ∙ none)) in
+    record {
+      most = rw (length-set p key e) table.most;
+      all = table.all;
+      marked = rw (entries_set p key e inside) (marked_change marks (entries_of p) key e table.marked some);
+    }
 
 -- the entries are the same in more places
-pub kept_more : (marks : List Bool) (p q : Entries) → IsTable marks p → length q ≤ 16384 → entries_of q ≡ entries_of p → IsTable marks q
-kept_more marks p q kept most same = record { most = most; all = kept.all; marked = rw same kept.marked }
+pub table_more : (marks : List Bool) (p q : Entries) → IsTable marks p → length q ≤ 16384 → entries_of q ≡ entries_of p → IsTable marks q
+table_more marks p q table most same = record { most = most; all = table.all; marked = rw same table.marked }
 
 -- the rest of a block without a mark
-pub kept_passed : (marks : List Bool) (p : Entries) (block at : ℕ) → IsTable marks p → get_or marks block false ≡ false → at / 64 ≡ block
+pub table_passed : (marks : List Bool) (p : Entries) (block at : ℕ) → IsTable marks p → get_or marks block false ≡ false → at / 64 ≡ block
     → entries_from at (drop at (entries_of p)) ≡ entries_from (64 * (block + 1)) (drop (64 * (block + 1)) (entries_of p))
-kept_passed marks p block at kept unmarked h = block_passed marks (entries_of p) block at kept.marked unmarked h
+table_passed marks p block at table unmarked h = block_passed marks (entries_of p) block at table.marked unmarked h
+
+-- after the last place
+after_places : (n : ℕ) (p : Entries) (at k : ℕ) → length p ≤ at → entries_from k (drop at (p ++ replicate n None)) ≡ []
+after_places n [] at k after = none_left n at k
+after_places n (x ∷ p) zero k after = absurd (omega arith)
+after_places n (x ∷ p) (suc at) k after = after_places n p at k (omega arith)
+
+pub nothing_after : (p : Entries) (at k : ℕ) → length p ≤ at → entries_from k (drop at (entries_of p)) ≡ []
+unfolding entries_of
+nothing_after p at k after = after_places (16384 - length p) p at k after
 
 -- more places are made
 pub entries_more : (p : Entries) (many : ℕ) → length p ≤ many → many ≤ 16384
@@ -189,12 +201,12 @@ open_nowhere s at none = rw (unclosed_opens at (drop at s), none) refl
 
 pub ruleset open_next = (open_here, open_later, open_nowhere)
 
-pub ruleset kept = (kept_none, kept_put, kept_change, kept_more)
+pub ruleset tables = (table_none, table_put, table_change, table_more)
 
-pub ruleset passed = (kept_passed, none_after, length-entries_of)
+pub ruleset passed = (table_passed, nothing_after)
 
 pub ruleset no_places = (entries_none)
 
-pub ruleset placed = (entry_in_place, entry_nowhere, place_of_some, entries_set, length-entries_of)
+pub ruleset placed = (entry_in_place, entry_nowhere, nowhere_some, entries_set, length-entries_of)
 
 pub ruleset more_places = (entries_more)

@@ -1,6 +1,6 @@
 //! What is kept of a pair, in 32 bits.
 
-ghost use Rattle.std.specs.Prelude.{◌≡◌, Some, None};
+ghost use Rattle.std.specs.Prelude.{◌≡◌, Decides, Some, None};
 ghost use Rattle.tm_packet.specs.Valid.{IsEntry};
 
 use crate::tracker::PairEntry;
@@ -50,6 +50,15 @@ impl PairPlace {
         PairPlace {
             counts: u32::from(first) * 0x10000 + u32::from(entry.count),
         }
+    }
+
+    /// The entry is this one.
+    #[tactic(auto, using(crate::proofs::PlaceLemmas::told))]
+    pub fn is(self, entry: PairEntry) -> bool
+        requires { IsEntry entry }
+        ensures { Decides result (self ≡ Some entry) }
+    {
+        self.counts == PairPlace::of(entry).counts
     }
 
     /// The entry, if there is one.

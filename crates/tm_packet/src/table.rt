@@ -1,6 +1,7 @@
-//! What is kept of all pairs: places for the keys up to the greatest that had an entry. Marks let a walk pass over places without one.
+//! What is kept of all pairs: places for the keys up to the greatest that had an entry. A walk ends after them, and marks let it pass over
+//! places without an entry.
 
-ghost use Rattle.std.specs.Prelude.{◌≡◌, ◌≢◌, ◌+◌, ◌*◌, ◌<◌, ◌≤◌, IfOk, IfSome, Some, None, [], ◌∷◌, drop, length, slice_set};
+ghost use Rattle.std.specs.Prelude.{◌≡◌, ◌+◌, ◌<◌, ◌≤◌, Decides, IfOk, IfSome, Some, None, true, false, [], ◌∷◌, drop, length, slice_set};
 
 use crate::place::PairPlace;
 use crate::tracker::PairEntry;
@@ -40,7 +41,7 @@ impl PairTable {
     ghost use Rattle.tm_packet.specs.Valid.{IsEntry};
 
     /// Without an entry. The places of all 16,384 keys are reserved at once, and none is made.
-    #[tactic(auto, using(crate::proofs::TableLemmas::no_places, crate::proofs::TableLemmas::kept))]
+    #[tactic(auto, using(crate::proofs::TableLemmas::no_places, crate::proofs::TableLemmas::tables))]
     pub fn new(alloc: Global) -> Result<PairTable, AllocError>
         ensures { IfOk result (λ table. table ≡ no_entries) }
     {
@@ -65,20 +66,29 @@ impl PairTable {
         }
     }
 
-    /// Puts another entry in the place of one.
+    /// Puts an entry in the place of another if that stands there, and answers whether it does.
     #[inline(always)]
-    #[tactic(auto, using(crate::proofs::TableLemmas::kept, crate::proofs::TableLemmas::placed))]
-    pub fn change(&mut self, key: usize, entry: PairEntry)
+    #[tactic(auto, using(crate::proofs::TableLemmas::tables, crate::proofs::TableLemmas::placed))]
+    pub fn exchange(&mut self, key: usize, before: PairEntry, entry: PairEntry) -> bool
         requires key { key < 16384 }
-        requires some { entry_at self.old key ≢ None }
+        requires before { IsEntry before }
         requires entry { IsEntry entry }
-        ensures { self.new ≡ slice_set self.old key (Some entry) }
+        ensures stood { Decides result (entry_at self.old key ≡ Some before) }
+        ensures changed { result ≡ true → self.new ≡ slice_set self.old key (Some entry) }
+        ensures left { result ≡ false → self.new ≡ self.old }
     {
+        if self.places.len() <= key {
+            return false;
+        }
+        if !self.places[key].is(before) {
+            return false;
+        }
         self.places[key] = PairPlace::of(entry);
+        true
     }
 
     /// Puts an entry at its key.
-    #[tactic(auto, using(crate::proofs::TableLemmas::kept, crate::proofs::TableLemmas::placed))]
+    #[tactic(auto, using(crate::proofs::TableLemmas::tables, crate::proofs::TableLemmas::placed))]
     pub fn put(&mut self, key: usize, entry: PairEntry)
         requires key { key < 16384 }
         requires entry { IsEntry entry }
@@ -91,7 +101,7 @@ impl PairTable {
         self.places[key] = PairPlace::of(entry);
     }
 
-    /// The first entry from a key on, with its key. Blocks without a mark are passed over.
+    /// The first entry from a key on, with its key. Blocks without a mark are passed over, and so is what lies after the last place.
     #[tactic(auto, using(crate::proofs::TableLemmas::passed))]
     pub fn next_entry(&self, at: usize) -> Option<(usize, PairEntry)>
         ensures none { result ≡ None → entries_from at (drop at self.now) ≡ [] }
@@ -101,7 +111,7 @@ impl PairTable {
         ensures below { IfSome result (λ found. found.0 < 16384) }
     {
         let mut from = at;
-        for block in at / BLOCK..KEYS / BLOCK {
+        for block in at / BLOCK..self.places.len().div_ceil(BLOCK) {
             let end = BLOCK * (block + 1);
             if self.marks[block] {
                 let found = self.next_entry_until(from, end);

@@ -1,10 +1,10 @@
 //! The tracker of sequence counts and groups, and its spelling in octets.
 
-ghost use Rattle.std.specs.Prelude.{◌≡◌, ◌≢◌, ◌+◌, ◌*◌, ◌<◌, ◌≤◌, ◌⊎◌, IfOk, IfErr, IfSome, OnOk, OnErr, IsOk, Ok, Err, Some, None, Decides, true, false, [], ◌∷◌, ◌++◌, length, drop, slice_set, vec_len, vec_capacity};
+ghost use Rattle.std.specs.Prelude.{◌≡◌, ◌≢◌, ◌+◌, ◌%◌, ◌*◌, ◌<◌, ◌≤◌, ◌⊎◌, IfOk, IfErr, IfSome, OnOk, OnErr, IsOk, Ok, Err, Some, None, Decides, true, false, [], ◌∷◌, ◌++◌, length, drop, slice_set, vec_len, vec_capacity};
 
 use crate::step::{gives_none, kept_after, notes_after};
 use crate::table::PairTable;
-use crate::{Header, Note, Notes, Pair, Why};
+use crate::{Flags, Header, Note, Notes, Pair, Why};
 use std::alloc::Global;
 use std::marker::Model;
 use tm_bits::{push_two, two_at};
@@ -120,36 +120,32 @@ impl Tracker {
         if header.is_idle() {
             return true;
         }
+        // Most packets follow the one before, and no group is open.
         let key = key_of(channel, header);
-        let entry = self.table.entry(key);
-        if entry.is_none() {
-            return self.begin_without_notes(channel, *header);
+        let (before, after) = entries_around(header.count());
+        if matches!(header.flags(), Flags::Unsegmented) && self.table.exchange(key, before, after) {
+            return true;
         }
-        if !gives_none(entry, header) {
-            return false;
-        }
-        self.table.change(key, kept_after(entry, header));
-        true
+        self.add_other_without_notes(channel, *header)
     }
 
-    // Takes the first header of a pair if it has no notes, and answers whether it has none.
-    #[cold]
+    // Takes a header that may begin a pair or stand in a group, if it has no notes, and answers whether it has none.
     #[inline(never)]
     #[tactic(auto, using(crate::proofs::Merging::one_header))]
-    fn begin_without_notes(&mut self, channel: u8, header: Header) -> bool
+    fn add_other_without_notes(&mut self, channel: u8, header: Header) -> bool
         requires channel { channel < 8 }
         requires packet { sequence.is_idle header ≡ false }
-        requires first { sequence.entry_at self.old (key_of (record { channel = channel; header = header })) ≡ None }
         ensures none { Decides result (sequence.notes self.old (record { channel = channel; header = header } ∷ []) ≡ [] ∷ []) }
         ensures recorded { result ≡ true → self.new
             ≡ sequence.entries_after self.old (record { channel = channel; header = header } ∷ []) }
         ensures left { result ≡ false → self.new ≡ self.old }
     {
-        if !gives_none(None, &header) {
+        let key = key_of(channel, &header);
+        let entry = self.table.entry(key);
+        if !gives_none(entry, &header) {
             return false;
         }
-        self.table
-            .put(key_of(channel, &header), kept_after(None, &header));
+        self.table.put(key, kept_after(entry, &header));
         true
     }
 
@@ -300,6 +296,19 @@ fn push_entry(out: &mut Vec<u8>, key: u16, last: &PairEntry)
         Some(first) => push_two(out, first),
         None => push_two(out, 0xFFFF),
     }
+}
+
+// The entry that a packet of this count leaves where no group is open, and the one that the packet before it has left.
+fn entries_around(count: u16) -> (PairEntry, PairEntry)
+    requires { count < 16384 }
+    ensures before { result.0 ≡ record { count = (count + 16383) % 16384; first = None } }
+    ensures after { result.1 ≡ record { count = count; first = None } }
+{
+    let before = PairEntry {
+        count: (count + 16383) % 16384,
+        first: None,
+    };
+    (before, PairEntry { count, first: None })
 }
 
 // The key of a header's pair.

@@ -262,9 +262,9 @@ const ROOM: usize = 2048;
 // How many octets are copied of a packet that is short, whatever it has: a number that is known is copied without a call.
 const SHORT: usize = 64;
 
-// Puts this many of the first octets at a place of a room. What the room has after them doesn't matter.
+// Copies the first octets of others to a place of a room. What the room has after them is not kept.
 #[inline(always)]
-fn put_first(room: &mut [u8], at: usize, octets: &[u8], many: usize)
+fn copy_first(room: &mut [u8], at: usize, octets: &[u8], many: usize)
     requires inside { many ≤ length octets.now }
     requires room { at + many ≤ length room.old }
     ensures put { take (at + many) room.new ≡ take at room.old ++ take many octets.now }
@@ -289,7 +289,7 @@ fn append_packet(room: &mut [u8], filled: usize, packet: &Packet<'_>, rest: &[u8
     let begin = filled + 16;
     let many = packet.octets.len();
     room[filled..begin].copy_from_slice(&packet_lead(packet));
-    put_first(room, begin, rest, many);
+    copy_first(room, begin, rest, many);
     begin + many
 }
 

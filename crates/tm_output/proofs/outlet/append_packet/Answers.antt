@@ -15,5 +15,5 @@ put_both filled k room first lead octets others is then long fits =
 pub returns-clause-put : goal.returns-clause-put
 unfolding binary_packet
 returns-clause-put c =
-    c.put_first.ensures.put
+    c.copy_first.ensures.put
     ∙ put_both c.args.filled _ c.args.room.now _ _ _ _ (c.copy_from_slice.ensures.after ∙ c.packet_lead.ensures) c.requires.first refl (omega (arith, c.requires.room))

@@ -2,7 +2,7 @@ use Rattle.std.proofs.Common.{◌≡◌, ◌≤◌, ℕ, List, ◌+◌, ◌-◌,
 use borrow.Rule.Slice.PartMut.{put_mid}
 use Rattle.std.proofs.lemmas.List.{length-take-le, take-take}
 use Rattle.tm_devices.proofs.Parts.{take_filled}
-use Rattle.tm_output.proofs.outlet.put_first.Goals as goal
+use Rattle.tm_output.proofs.outlet.copy_first.Goals as goal
 
 -- the part of a room has as many octets as are put there
 as_long : (at many : ℕ) (room octets : List ℕ) → many ≤ length room - at → many ≤ length octets

@@ -72,7 +72,6 @@ impl Model for Tracker {
 impl Tracker {
     ghost use Rattle.tm_packet.specs.Merge.{no_entries};
     ghost use Rattle.tm_packet.specs.Merge as sequence;
-    ghost use Rattle.tm_packet.specs.code.Single.{single_after, single_notes};
     ghost use Rattle.tm_packet.specs.Valid.{AreValidEntries};
     ghost use Rattle.tm_packet.specs.Spelling.{entries_spelling, spelled, entries_from, entries_decoding_of, fault_after, raws, state_of, has_values, first_count_of};
     ghost use Rattle.tm_packet.specs.declared.tracker.TrackerFault.TheVariants as fault;
@@ -121,35 +120,16 @@ impl Tracker {
         if header.is_idle() {
             return true;
         }
+        // Most packets follow the one before, and no group is open.
         let key = key_of(channel, header);
-        // Most packets follow the one before. Most are in no group.
         let (before, after) = entries_around(header.count());
         if matches!(header.flags(), Flags::Unsegmented) && self.table.exchange(key, before, after) {
-            return true;
-        }
-        if matches!(header.flags(), Flags::Continuation) && self.continue_pair(key, header) {
             return true;
         }
         self.add_other_without_notes(channel, *header)
     }
 
-    // Takes a header whose pair has an entry if it has no notes, and answers whether it did so.
-    #[inline(always)]
-    fn continue_pair(&mut self, key: usize, header: &Header) -> bool
-        requires key { key < 16384 }
-        ensures none { result ≡ true → single_notes (sequence.entry_at self.old key) header.now ≡ [] }
-        ensures taken { result ≡ true → self.new
-            ≡ slice_set self.old key (Some (single_after (sequence.entry_at self.old key) header.now)) }
-        ensures left { result ≡ false → self.new ≡ self.old }
-    {
-        let entry = self.table.entry(key);
-        let Some(last) = entry else {
-            return false;
-        };
-        gives_none(entry, header) && self.table.exchange(key, last, kept_after(entry, header))
-    }
-
-    // Takes a header if it has no notes, and answers whether it has none.
+    // Takes a header that may begin a pair or stand in a group, if it has no notes, and answers whether it has none.
     #[inline(never)]
     #[tactic(auto, using(crate::proofs::Merging::one_header))]
     fn add_other_without_notes(&mut self, channel: u8, header: Header) -> bool

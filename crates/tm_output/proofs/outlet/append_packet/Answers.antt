@@ -1,4 +1,4 @@
-use Rattle.std.proofs.Common.{◌≡◌, ◌≤◌, ℕ, List, ◌+◌, ◌++◌, ◌∙◌, arith, append_assoc, ap, length, sym, take, refl}
+use Rattle.std.proofs.Common.{◌≡◌, ◌≤◌, ℕ, List, ◌+◌, ◌++◌, ◌∙◌, arith, append_assoc, ap, length, take, refl}
 use Rattle.std.proofs.lemmas.Slice.{take-put_mid}
 use Rattle.tm_output.specs.Pieces.{binary_packet}
 use borrow.Rule.Slice.PartMut.{put_mid}

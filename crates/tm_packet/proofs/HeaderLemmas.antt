@@ -1,14 +1,17 @@
 -- The parts of a header as quotients and remainders of words of 16 bits, and as the bits that are written.
-use Rattle.std.proofs.Common.{◌≡◌, ℕ, ◌+◌, ◌-◌, ◌*◌, ◌/◌, ◌%◌, ◌^◌, ◌<◌, ◌≤◌, Bool, true, false, ◌==◌, List, [], ◌∷◌, ◌++◌, length, drop, get_or, refl, sym, ap, ◌∙◌, arith, length-drop, length-append, append_assoc}
-use Rattle.std.proofs.lemmas.Bool.{eq-eqb, le-ltb}
+use Rattle.std.proofs.Common.{◌≡◌, ◌≢◌, ℕ, ◌+◌, ◌-◌, ◌*◌, ◌/◌, ◌%◌, ◌^◌, ◌<◌, ◌≤◌, Bool, true, false, ◌==◌, List, [], ◌∷◌, ◌++◌, length, drop, get_or, refl, sym, ap, ◌∙◌, arith, length-drop, length-append, append_assoc}
+use Rattle.std.proofs.lemmas.Bool.{eq-eqb, le-ltb, ne_eqb}
 use Rattle.std.proofs.lemmas.List.{append-nil, get_or-drop}
-use Rattle.std.specs.Prelude.{Ok, bit_and}
-use Rattle.std.proofs.lemmas.Nat.{and_mask, one_shl}
-use Rattle.tm_bits.specs.Bits.{AreOctets, low_bits, bits_of, number, digit, part}
+use Rattle.std.specs.Prelude.{Ok, Err}
+use Rattle.tm_packet.specs.declared.header.PacketFault.TheVariants.{Version}
+use Rattle.tm_bits.specs.Bits.{AreOctets, low_bits, bits_of, number, digit, part, two_at}
 use Rattle.tm_bits.proofs.BitLemmas.{length-low_bits, number-low_bits, number-append, low_bits-mod, low_bits-split, bits_of-one, bits_spelled}
 use Rattle.tm_bits.proofs.PartLemmas.{octets_behind, number-bits_of-cons, part-word, part-behind}
 use Rattle.tm_packet.specs.declared.header.Flags.{Flags}
 use Rattle.tm_packet.specs.declared.header.Flags.TheVariants as flag
+use Rattle.tm_packet.specs.code.Headers.{header_fields, header_words}
+use Rattle.tm_packet.specs.declared.header.Header.TheInside.{Inside}
+use Rattle.tm_packet.proofs.WordLemmas.{few_flags}
 use Rattle.tm_packet.specs.Header.{Fields, AreInRange, flags_of, flags_number, packet_version_of, packet_header_of, header_bits, header_reading_of}
 
 -- the number in two octets
@@ -33,21 +36,29 @@ part_in_word k octets from to are room ordered inside =
     rw (part-behind k octets from to (omega arith) ordered, part_front (drop k octets) from to (octets_behind k octets are) (omega (arith, length-drop k octets)) ordered inside)
     (rw (get_or-drop k octets 0 0, get_or-drop k octets 1 0, zeroth) refl)
 
--- what the code reads of the word in which a part lies
-pub part_read : (octets : List ℕ) (word from to read : ℕ) → AreOctets octets → 2 * (from / 16) + 2 ≤ length octets
-    → word ≡ 256 * get_or octets (2 * (from / 16)) 0 + get_or octets (2 * (from / 16) + 1) 0 → from ≤ to → to ≤ 16 * (from / 16) + 16
-    → read ≡ word / 2 ^ (16 * (from / 16) + 16 - to) % 2 ^ (to - from) → read ≡ part octets from to
-part_read octets word from to read are room whole ordered inside is =
-    let at : ℕ = from / 16 in
-    let first : 8 * (2 * at) + (from - 16 * at) ≡ from = omega arith in
-    let last : 8 * (2 * at) + (to - 16 * at) ≡ to = omega arith in
-    let behind : 16 * at + 16 - to ≡ 16 - (to - 16 * at) = omega arith in
-    let width : to - from ≡ to - 16 * at - (from - 16 * at) = omega arith in
-    rw (is, whole, behind, width, ← part_in_word (2 * at) octets (from - 16 * at) (to - 16 * at) are room (omega arith) (omega arith), first, last) refl
+-- the version of a header is in its first word
+version_read : (octets : List ℕ) → AreOctets octets → 6 ≤ length octets → packet_version_of octets ≡ two_at octets 0 / 8192
+version_read octets are room =
+    let below = are.below 0 in
+    let next = are.below 1 in
+    part_in_word 0 octets 0 3 are (omega arith) (omega arith) (omega arith) ∙ omega arith
 
--- the lowest k bits
-pub masked : (n k : ℕ) → k < 32 → bit_and n (1 * 2 ^ k % 2 ^ 32 - 1) ≡ n % 2 ^ k
-masked n k small = rw (one_shl k 32 small) (and_mask n k)
+-- the parts of a header of version 0 are those of its words
+pub words_read : (octets : List ℕ) → AreOctets octets → 6 ≤ length octets → two_at octets 0 < 8192
+    → header_fields (record { identification = two_at octets 0; sequence = two_at octets 2; data_length = two_at octets 4 }) ≡ packet_header_of octets
+words_read octets are room version =
+    let inside : 0 + 2 ≤ length octets = omega arith in
+    let third : part octets 3 4 ≡ two_at octets 0 / 4096 = part_in_word 0 octets 3 4 are inside (omega arith) (omega arith) ∙ omega arith in
+    let fourth : part octets 4 5 ≡ two_at octets 0 / 2048 % 2 = part_in_word 0 octets 4 5 are inside (omega arith) (omega arith) ∙ omega arith in
+    let fifth : part octets 5 16 ≡ two_at octets 0 % 2048 = part_in_word 0 octets 5 16 are inside (omega arith) (omega arith) ∙ omega arith in
+    let small : get_or octets 2 0 < 256 = are.below 2 in
+    let smaller : get_or octets 3 0 < 256 = are.below 3 in
+    let sixth : part octets 16 18 ≡ two_at octets 2 / 16384 = part_in_word 2 octets 0 2 are (omega arith) (omega arith) (omega arith) ∙ omega arith in
+    let seventh : part octets 18 32 ≡ two_at octets 2 % 16384 = part_in_word 2 octets 2 16 are (omega arith) (omega arith) (omega arith) ∙ omega arith in
+    let last : get_or octets 4 0 < 256 = are.below 4 in
+    let least : get_or octets 5 0 < 256 = are.below 5 in
+    let eighth : part octets 32 48 ≡ two_at octets 4 = part_in_word 4 octets 0 16 are (omega arith) (omega arith) (omega arith) ∙ omega arith in
+    rw (third, fourth, fifth, sixth, seventh, eighth) refl
 
 -- the bits of a word's two octets
 pub word_octets : (w : ℕ) → low_bits 8 (w / 256 % 256) ++ low_bits 8 (w % 256) ≡ low_bits 16 w
@@ -55,7 +66,7 @@ word_octets w =
     rw (low_bits-mod 8 (w / 256), low_bits-mod 8 w) (sym (low_bits-split 8 8 w))
 
 pub identification_bits : (t s : Bool) (a : ℕ) → a < 2048
-    → low_bits 16 (digit t * 4096 + digit s * 2048 + a) ≡ low_bits 3 0 ++ t ∷ s ∷ low_bits 11 a
+    → low_bits 16 ((digit t * 2 + digit s) * 2048 + a) ≡ low_bits 3 0 ++ t ∷ s ∷ low_bits 11 a
 unfolding number
 identification_bits t s a small =
     let l : length (low_bits 11 a) ≡ 11 = length-low_bits 11 a in
@@ -79,17 +90,15 @@ unfolding bits_of
 three_words x y z = rw (← word_octets x, ← word_octets y, ← word_octets z) (simp (append_assoc, append-nil))
 
 -- the octets of three words are the bits of the header
-pub written : (h : Fields) (u v : List ℕ) (z : List ℕ) (identification sequence : ℕ) → AreInRange h
-    → identification ≡ digit h.telecommand * 4096 + digit h.secondary * 2048 + h.application
-    → sequence ≡ flags_number h.flags * 16384 + h.count → flags_number h.flags < 4
-    → u ≡ identification / 256 % 256 ∷ identification % 256 ∷ [] → v ≡ sequence / 256 % 256 ∷ sequence % 256 ∷ []
-    → z ≡ h.data_length / 256 % 256 ∷ h.data_length % 256 ∷ []
+pub written : (h : Fields) (words : Inside) (u v z : List ℕ) → AreInRange h → words ≡ header_words h
+    → u ≡ words.identification / 256 % 256 ∷ words.identification % 256 ∷ [] → v ≡ words.sequence / 256 % 256 ∷ words.sequence % 256 ∷ []
+    → z ≡ words.data_length / 256 % 256 ∷ words.data_length % 256 ∷ []
     → bits_of (get_or u 0 0 ∷ get_or u 1 0 ∷ get_or v 0 0 ∷ get_or v 1 0 ∷ get_or z 0 0 ∷ get_or z 1 0 ∷ []) ≡ header_bits h
 unfolding bits_of
-written h u v z identification sequence fits first second few eu ev ez =
-    rw (eu, ev, ez)
-    (three_words identification sequence h.data_length
-    ∙ rw (first, second, identification_bits h.telecommand h.secondary h.application fits.application, sequence_bits (flags_number h.flags) h.count few fits.count)
+written h words u v z fits is eu ev ez =
+    rw (eu, ev, ez, is)
+    (three_words (header_words h).identification (header_words h).sequence h.data_length
+    ∙ rw (identification_bits h.telecommand h.secondary h.application fits.application, sequence_bits (flags_number h.flags) h.count (few_flags h.flags) fits.count)
     (simp append_assoc))
 
 one_bit : (b : Bool) → (number (b ∷ []) == 1) ≡ b
@@ -122,3 +131,18 @@ reading_ok xs room same = rw (le-ltb (length xs) 6 room, eq-eqb (packet_version_
 
 pub reading_back : (xs : List ℕ) (h : Fields) → AreInRange h → 6 ≤ length xs → bits_of xs ≡ header_bits h → header_reading_of xs ≡ Ok h
 reading_back xs h fits room e = reading_ok xs room (version_back xs h e) ∙ ap Ok (header_back xs h fits e)
+
+-- reading refuses another version
+pub reading_version : (xs : List ℕ) (word : ℕ) → AreOctets xs → 6 ≤ length xs → word ≡ two_at xs 0 → word / 8192 ≢ 0 → Err Version ≡ header_reading_of xs
+reading_version xs word are room is some =
+    let other : packet_version_of xs ≡ 0 → ⊥ = (λ none. some (ap (λ n. n / 8192) is ∙ sym (version_read xs are room) ∙ none)) in
+    rw (le-ltb (length xs) 6 room, ne_eqb (packet_version_of xs) 0 other) refl
+
+-- it gives what the words say
+pub reading_words : (xs : List ℕ) (first second third : ℕ) → AreOctets xs → 6 ≤ length xs → first ≡ two_at xs 0 → second ≡ two_at xs 2 → third ≡ two_at xs 4
+    → first / 8192 ≡ 0 → Ok (header_fields (record { identification = first; sequence = second; data_length = third })) ≡ header_reading_of xs
+reading_words xs first second third are room is then last none =
+    let version : packet_version_of xs ≡ 0 = version_read xs are room ∙ ap (λ n. n / 8192) (sym is) ∙ none in
+    rw (is, then, last, reading_ok xs room version) (ap Ok (words_read xs are room (omega (arith, is, none))))
+
+pub ruleset readings = (reading_version, reading_words)

@@ -3,6 +3,7 @@ pub mod Merging
 pub mod States
 pub mod TableLemmas
 pub mod AfterValid
+pub mod WordLemmas
 pub mod HeaderLemmas
 pub mod RoundTrip
 pub mod SpellingLemmas

@@ -5,6 +5,7 @@ ghost use Rattle.tm_bits.specs.Bits.{bits_of, part};
 ghost use Rattle.tm_packet.specs.Header.{packet_version_of, header_reading_of, header_bits};
 
 use std::marker::Model;
+use tm_bits::two_at;
 
 /// The sequence flags: where in a group of packets a packet stands (section 4.1.3.4.2).
 #[derive(Clone, Copy, Debug, PartialEq, Eq)]
@@ -61,35 +62,25 @@ pub enum PacketFault {
 /// The header of a packet of version 0, its numbers within their bits.
 #[derive(Clone, Copy, Debug, PartialEq, Eq)]
 pub struct Header {
-    // Where the packet belongs, and how long it is.
-    application: u16,
-    flags: Flags,
-    count: u16,
+    // Its three words: the packet's identification, its sequence control, and the octets of its data field less one.
+    identification: u16,
+    sequence: u16,
     data_length: u16,
-    // What kind of packet it is.
-    telecommand: bool,
-    secondary: bool,
 }
 
 impl Model for Header {
-    ghost use Rattle.tm_packet.specs.Header.{Fields, AreInRange};
+    ghost use Rattle.tm_packet.specs.Header.{Fields};
+    ghost use Rattle.tm_packet.specs.code.Headers.{AreWords, header_fields, header_words};
 
     ghost Value = { Fields };
 
-    ghost use Rattle.tm_packet.specs.code.Headers.{header_fields};
-
     ghost view = { header_fields };
 
-    ghost invariant = { λ h. AreInRange (header_fields h) };
+    ghost invariant = { AreWords };
 
-    ghost inverse = { λ v. record {
-      telecommand = v.telecommand;
-      secondary = v.secondary;
-      application = v.application;
-      flags = v.flags;
-      count = v.count;
-      data_length = v.data_length;
-    } };
+    ghost inverse = { header_words };
+
+    ghost inverse_ok = { λ h are. are.back };
 }
 
 impl Header {
@@ -97,6 +88,7 @@ impl Header {
     ghost use Rattle.tm_packet.specs.Merge as sequence;
 
     /// The header of these parts: `None` if and only if the application is over 2047 or the count over 16383.
+    #[tactic(auto, using(crate::proofs::WordLemmas::words))]
     pub fn new(
         telecommand: bool,
         secondary: bool,
@@ -117,12 +109,10 @@ impl Header {
         if application > 2047 || count > 16383 {
             return None;
         }
+        let kind = u16::from(telecommand) * 2 + u16::from(secondary);
         Some(Header {
-            telecommand,
-            secondary,
-            application,
-            flags,
-            count,
+            identification: kind * 2048 + application,
+            sequence: flags.number() * 16384 + count,
             data_length,
         })
     }
@@ -131,14 +121,14 @@ impl Header {
     pub fn telecommand(&self) -> bool
         ensures { result ≡ self.now.telecommand }
     {
-        self.telecommand
+        self.identification / 4096 == 1
     }
 
     /// There is a secondary header.
     pub fn secondary(&self) -> bool
         ensures { result ≡ self.now.secondary }
     {
-        self.secondary
+        self.identification / 2048 % 2 == 1
     }
 
     /// The application process identifier, at most 2047, which is that of idle packets.
@@ -146,14 +136,14 @@ impl Header {
         ensures value { result ≡ self.now.application }
         ensures below { result < 2048 }
     {
-        self.application
+        self.identification % 2048
     }
 
     /// The sequence flags.
     pub fn flags(&self) -> Flags
         ensures { result ≡ self.now.flags }
     {
-        self.flags
+        Flags::of(self.sequence / 16384)
     }
 
     /// The sequence count, at most 16383.
@@ -161,7 +151,7 @@ impl Header {
         ensures value { result ≡ self.now.count }
         ensures below { result < 16384 }
     {
-        self.count
+        self.sequence % 16384
     }
 
     /// The octets of the data field less one.
@@ -182,13 +172,7 @@ impl Header {
     pub fn is_idle(&self) -> bool
         ensures { result ≡ sequence.is_idle self.now }
     {
-        matches!(
-            self,
-            Header {
-                application: 2047,
-                ..
-            }
-        )
+        self.application() == 2047
     }
 }
 
@@ -206,22 +190,21 @@ pub fn packet_version(first: u8) -> u8
 /// # Errors
 ///
 /// `Short` where there are fewer than six octets; else `Version` where the version is not 0.
+#[tactic(auto, using(crate::proofs::HeaderLemmas::readings))]
 pub fn read_header(octets: &[u8]) -> Result<Header, PacketFault>
     ensures { result ≡ header_reading_of octets.now }
 {
     if octets.len() < 6 {
         return Err(PacketFault::Short);
     }
-    if bits(octets, 0, 3) != 0 {
+    let identification = two_at(octets, 0);
+    if identification / 8192 != 0 {
         return Err(PacketFault::Version);
     }
     Ok(Header {
-        telecommand: bits(octets, 3, 4) == 1,
-        secondary: bits(octets, 4, 5) == 1,
-        application: bits(octets, 5, 16),
-        flags: Flags::of(bits(octets, 16, 18)),
-        count: bits(octets, 18, 32),
-        data_length: bits(octets, 32, 48),
+        identification,
+        sequence: two_at(octets, 2),
+        data_length: two_at(octets, 4),
     })
 }
 
@@ -230,29 +213,8 @@ pub fn write_header(header: Header) -> [u8; 6]
     ensures bits { bits_of result ≡ header_bits header }
     ensures read_back { header_reading_of result ≡ Ok header }
 {
-    let identification = u16::from(header.telecommand) * 0x1000
-        + u16::from(header.secondary) * 0x800
-        + header.application;
-    let sequence = header.flags.number() * 0x4000 + header.count;
-    let [a, b] = identification.to_be_bytes();
-    let [c, d] = sequence.to_be_bytes();
+    let [a, b] = header.identification.to_be_bytes();
+    let [c, d] = header.sequence.to_be_bytes();
     let [e, f] = header.data_length.to_be_bytes();
     [a, b, c, d, e, f]
-}
-
-// The number in the header's bits from `from` up to, not with, `to`, which lie in one word of 16 bits.
-#[tactic(auto, using(crate::proofs::HeaderLemmas::masked, crate::proofs::HeaderLemmas::part_read))]
-fn bits(octets: &[u8], from: usize, to: usize) -> u16
-    requires ordered { from ≤ to }
-    requires one_word { to ≤ 16 * (from / 16) + 16 }
-    requires inside { to ≤ 48 }
-    requires room { 6 ≤ length octets.now }
-    requires some { from < 48 }
-    ensures value { result ≡ part octets.now from to }
-    ensures below { result < 2 ^ (to - from) }
-{
-    let at = from / 16;
-    let word = u16::from_be_bytes([octets[2 * at], octets[2 * at + 1]]);
-    let ones = (1u32 << (to - from)) - 1;
-    ((u32::from(word) >> (16 * at + 16 - to)) & ones) as u16
 }

@@ -142,10 +142,33 @@ impl Tracker {
     {
         let key = key_of(channel, &header);
         let entry = self.table.entry(key);
+        let Some(last) = entry else {
+            return self.begin_without_notes(channel, header);
+        };
         if !gives_none(entry, &header) {
             return false;
         }
-        self.table.put(key, kept_after(entry, &header));
+        self.table.exchange(key, last, kept_after(entry, &header))
+    }
+
+    // Takes the first header of a pair if it has no notes, and answers whether it has none.
+    #[cold]
+    #[inline(never)]
+    #[tactic(auto, using(crate::proofs::Merging::one_header))]
+    fn begin_without_notes(&mut self, channel: u8, header: Header) -> bool
+        requires channel { channel < 8 }
+        requires packet { sequence.is_idle header ≡ false }
+        requires first { sequence.entry_at self.old (key_of (record { channel = channel; header = header })) ≡ None }
+        ensures none { Decides result (sequence.notes self.old (record { channel = channel; header = header } ∷ []) ≡ [] ∷ []) }
+        ensures recorded { result ≡ true → self.new
+            ≡ sequence.entries_after self.old (record { channel = channel; header = header } ∷ []) }
+        ensures left { result ≡ false → self.new ≡ self.old }
+    {
+        if !gives_none(None, &header) {
+            return false;
+        }
+        self.table
+            .put(key_of(channel, &header), kept_after(None, &header));
         true
     }
 

@@ -1,4 +1,4 @@
--- The words of a header, and what they say.
+-- The words of a header, and its fields.
 use Rattle.std.proofs.Common.{◌≡◌, ℕ, zero, suc, ◌+◌, ◌*◌, ◌/◌, ◌%◌, ◌<◌, Bool, true, false, ◌==◌, refl, arith}
 use Rattle.tm_bits.specs.Bits.{digit}
 use Rattle.tm_packet.specs.declared.header.Flags.{Flags}
@@ -43,6 +43,7 @@ are_words h version small few = record {
       rw (i, s) refl;
 }
 
+-- numbers within their bits
 digit_below : (b : Bool) → digit b < 2
 digit_below true = omega arith
 digit_below false = omega arith
@@ -53,7 +54,7 @@ few_flags flag.First = omega arith
 few_flags flag.Last = omega arith
 few_flags flag.Unsegmented = omega arith
 
--- words that were made of parts say them
+-- words that were made of fields give them back
 pub fields_back : (v : Fields) → v.application < 2048 → v.count < 16384 → header_fields (header_words v) ≡ v
 fields_back v small few =
     let t = digit_below v.telecommand in
@@ -67,7 +68,7 @@ fields_back v small few =
     let fifth : n % 16384 ≡ v.count = omega arith in
     rw (first, second, third, fourth, fifth, bit_of v.telecommand, bit_of v.secondary, flags_of_number v.flags) refl
 
--- what words say is in range
+-- the fields are in range
 pub in_range : (h : Inside) → AreWords h → AreInRange (header_fields h)
 in_range h are = record { application = omega arith; count = omega arith; data_length = are.length }
 

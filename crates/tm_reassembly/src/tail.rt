@@ -205,6 +205,7 @@ impl Tail {
     }
 
     // Gives the packet, which is whole with these octets.
+    #[inline(always)]
     fn complete<S: Sink>(&mut self, site: Site, last: &[u8], sink: &mut S) -> Result<(), S::Fault>
         requires channel { site.channel < 8 }
         requires whole { MayComplete self.old last.now }

@@ -4,7 +4,7 @@ use Rattle.tm_bits.specs.Bits.{digit}
 use Rattle.tm_packet.specs.declared.header.Header.TheInside.{Inside}
 use Rattle.tm_packet.specs.Header.{Fields, flags_of, flags_number}
 
--- what they say
+-- the fields that the words say
 abbrev pub header_fields : Inside → Fields
 header_fields h = record {
   telecommand = h.identification / 4096 == 1;
@@ -15,7 +15,7 @@ header_fields h = record {
   data_length = h.data_length;
 }
 
--- the words that say this
+-- the words of these fields
 abbrev pub header_words : Fields → Inside
 header_words v = record {
   identification = (digit v.telecommand * 2 + digit v.secondary) * 2048 + v.application;
@@ -23,7 +23,7 @@ header_words v = record {
   data_length = v.data_length;
 }
 
--- words of a header of version 0, which what they say gives back
+-- words of a header of version 0: its fields give them back
 pub record AreWords (h : Inside) : Type 0 where
   pub version : h.identification < 8192
   pub length : h.data_length < 65536

@@ -174,7 +174,7 @@ struct tmx_answer {
 uint32_t tmx_run(const struct tmx_request *request, uint8_t *out, size_t out_room, uint8_t *report, size_t report_room, uint8_t *checkpoint,
                  size_t checkpoint_room, struct tmx_answer *answer);
 
-/* ---- jobs */
+/* ---- jobs. Where a length, a count or a room is 0, the pointer beside it may be NULL. A job that is NULL is refused as TMX_JOB. */
 
 /* A job: how far a recording was read. Only the library knows what is in it. Any thread may call it, one at a time. */
 typedef struct tmx_job tmx_job;
@@ -297,13 +297,14 @@ uint32_t tmx_job_only(tmx_job *job, const uint16_t *applications, size_t count);
 /* From now on the job gives rows of the packets of this application, whether it gives its packets or not: `definition` is a text that defines
    their fields, as in struct tmx_request. Several applications may have one; a second one of an application takes the place of the first. A
    checkpoint has none. A row's octets are as those of TMX_BINARY_FIELDS. All memory is taken here. Returns the status. With TMX_APPLICATION,
-   TMX_LONG, TMX_DEFINITION or TMX_MEMORY the job is as it was, and `*error` says why; with TMX_APPLICATION the line is empty. */
+   TMX_LONG, TMX_DEFINITION or TMX_MEMORY the job is as it was, and `*error` says why; with TMX_APPLICATION and TMX_JOB the line is empty. */
 uint32_t tmx_job_fields(tmx_job *job, uint16_t application, const uint8_t *definition, size_t length, struct tmx_error *error);
 
 /* How many octets each row of an application has: 0 without a definition, and of NULL. */
 uint32_t tmx_job_row_length(const tmx_job *job, uint16_t application);
 
-/* Writes for how many events and octets a call of tmx_job_feed needs room to go on always, and returns the status. Of NULL both are 0. */
+/* Writes for how many events and octets a call of tmx_job_feed needs room to go on always, and returns the status. Of NULL both are 0. A
+   definition with shorter rows in the place of another leaves them as they were. */
 uint32_t tmx_job_most(const tmx_job *job, size_t *events, size_t *octets);
 
 /* Takes the next octets of the recording, cut anywhere: the job keeps the part of a record that isn't whole. Returns the status. With TMX_DONE
@@ -321,7 +322,8 @@ uint32_t tmx_job_end(tmx_job *job, struct tmx_room *room, struct tmx_progress *p
 size_t tmx_event_line(const struct tmx_event *event, char *line, size_t room);
 
 /* Writes the checkpoint of the whole records that are done, if the room is large enough, and always its length, which is 0 where there is no
-   job or memory ran out. The status is TMX_ROOM where the room is too small. What the job keeps of a record that isn't whole is no part of it. */
+   job or memory ran out. The status is TMX_ROOM where the room is too small, and TMX_MEMORY where memory ran out. What the job keeps of a record
+   that isn't whole is no part of it, and what tmx_job_end told neither: a job may go on from there. */
 uint32_t tmx_job_checkpoint(const tmx_job *job, uint8_t *to, size_t room, size_t *length);
 
 /* How many octets each record has, and how many records are done: 0 of NULL. */

@@ -34,13 +34,8 @@ static struct tmx_event nowhere[1];
 /* A place of so many things: where there are none, not NULL. */
 #define SOME(at, count) ((count) == 0 ? (void *)nowhere : (void *)(at))
 
-static struct tmx_octets octets(const uint8_t *at, size_t length) {
-    return (struct tmx_octets){SOME(at, length), length};
-}
-
-static struct tmx_octets some(struct tmx_octets it) {
-    return octets(it.at, it.length);
-}
+static struct tmx_octets octets(const uint8_t *at, size_t length) { return (struct tmx_octets){SOME(at, length), length}; }
+static struct tmx_octets some(struct tmx_octets it) { return octets(it.at, it.length); }
 
 uint32_t tmx_run(const struct tmx_request *request, uint8_t *out, size_t out_room, uint8_t *report, size_t report_room, uint8_t *checkpoint,
                  size_t checkpoint_room, struct tmx_answer *answer) {
@@ -73,49 +68,32 @@ uint32_t tmx_job_resume(tmx_job **job, const uint8_t *settings, size_t length, c
     return open_job(job, &(struct opening){octets(settings, length), octets(checkpoint, length2), 1}, error);
 }
 
-uint32_t tmx_job_only(tmx_job *job, const uint16_t *applications, size_t count) {
-    return job_only(&(struct handle){job}, SOME(applications, count), count);
-}
+/* A handle of a job. */
+#define OF(job) (&(struct handle){(tmx_job *)(job)})
 
 uint32_t tmx_job_fields(tmx_job *job, uint16_t application, const uint8_t *definition, size_t length, struct tmx_error *error) {
     struct tmx_answer answer;
-    job_fields(&(struct handle){job}, application, SOME(definition, length), length, error->line, sizeof error->line, &answer);
+    job_fields(OF(job), application, SOME(definition, length), length, error->line, sizeof error->line, &answer);
     return told(&answer, error);
 }
 
-uint32_t tmx_job_row_length(const tmx_job *job, uint16_t application) {
-    return job_row_length(&(struct handle){(tmx_job *)job}, application);
-}
-
-uint32_t tmx_job_most(const tmx_job *job, size_t *events, size_t *octets) {
-    return job_most(&(struct handle){(tmx_job *)job}, events, octets);
-}
-
 uint32_t tmx_job_feed(tmx_job *job, const uint8_t *at, size_t length, struct tmx_room *to, struct tmx_progress *progress) {
-    return job_feed(&(struct handle){job}, SOME(at, length), length, SOME(to->events, to->events_room), to->events_room,
+    return job_feed(OF(job), SOME(at, length), length, SOME(to->events, to->events_room), to->events_room,
                     SOME(to->octets, to->octets_room), to->octets_room, progress);
 }
 
 uint32_t tmx_job_end(tmx_job *job, struct tmx_room *to, struct tmx_progress *progress) {
-    return job_end(&(struct handle){job}, SOME(to->events, to->events_room), to->events_room, progress);
+    return job_end(OF(job), SOME(to->events, to->events_room), to->events_room, progress);
 }
 
 uint32_t tmx_job_checkpoint(const tmx_job *job, uint8_t *to, size_t room, size_t *length) {
-    return job_checkpoint(&(struct handle){(tmx_job *)job}, SOME(to, room), room, length);
+    return job_checkpoint(OF(job), SOME(to, room), room, length);
 }
 
-uint32_t tmx_job_records(const tmx_job *job) {
-    return job_records(&(struct handle){(tmx_job *)job});
-}
-
-uint32_t tmx_job_record_length(const tmx_job *job) {
-    return job_record_length(&(struct handle){(tmx_job *)job});
-}
-
-void tmx_job_free(tmx_job *job) {
-    job_close(&(struct handle){job});
-}
-
-size_t tmx_event_line(const struct tmx_event *event, char *line, size_t room) {
-    return event_text(event, SOME(line, room), room);
-}
+uint32_t tmx_job_only(tmx_job *job, const uint16_t *applications, size_t count) { return job_only(OF(job), SOME(applications, count), count); }
+uint32_t tmx_job_row_length(const tmx_job *job, uint16_t application) { return job_row_length(OF(job), application); }
+uint32_t tmx_job_most(const tmx_job *job, size_t *events, size_t *octets) { return job_most(OF(job), events, octets); }
+uint32_t tmx_job_records(const tmx_job *job) { return job_records(OF(job)); }
+uint32_t tmx_job_record_length(const tmx_job *job) { return job_record_length(OF(job)); }
+void tmx_job_free(tmx_job *job) { job_close(OF(job)); }
+size_t tmx_event_line(const struct tmx_event *event, char *line, size_t room) { return event_text(event, SOME(line, room), room); }

@@ -97,6 +97,24 @@ def run_in_steps(words, kept, folder):
     return status, out + found[0], report + found[1]
 
 
+def pieces(reader, application):
+    """By command the lines and the octets that stand for them, of the head none; and the report."""
+    rows = [b"", *reference.binary_rows(reader.packets, application)]
+    return {
+        "packets": ([it[2] for it in reader.packets], list(reference.binary_packets(reader.packets)), reader.report_of(None)),
+        "fields": (list(reference.rows(reader.packets, application)), rows, reader.report_of(application)),
+    }
+
+
+def goes_on_in_octets(words, stop, wanted, folder):
+    """Whether a job that stops and goes on in the other form gives the lines up to the stop, and the octets of the others."""
+    lines, octets, report = wanted
+    status, text, before = run([*words, "--checkpoint", "chk", "--stop-after", str(stop)], folder)
+    done = text.count(b"\n")
+    end, rest, after = run([*words, "--binary", "--resume", "chk"], folder)
+    return (status, end, text, rest, before + after) == (0, 0, text_of(lines[:done]), b"".join(octets[done:]), text_of(report))
+
+
 def compare_whole(tmx, settings, reader, octets, folder):
     """How many runs of the commands that can't be stopped were compared, and which of them differ."""
     whole = {
@@ -116,12 +134,15 @@ def compare(tmx, definition, seed, folder):
     reader, _ = reference.read_recording(settings, recording)
     stopped, kept = reference.read_recording(settings, recording, stops)
     in_steps = wanted(stopped, application)
+    changing = pieces(reader, application)
     number, wrong = compare_whole(tmx, settings, reader, len(recording), folder)
     for command, both in wanted(reader, application).items():
         words = [tmx, *command.split(), "--settings", "settings"]
         if command.startswith("fields"):
             words += ["--definition", definition, "--apid", str(application)]
-        number += 2
+        if command in changing and not goes_on_in_octets(words, chance.randrange(1, 400), changing[command], folder):
+            wrong.append(f"{command}, then in octets")
+        number += 3 if command in changing else 2
         if run(words, folder) != (0, *both) or run_in_steps(words, kept, folder) != (0, *in_steps[command]):
             wrong.append(command)
     return number, [f"seed {seed}: {command}" for command in wrong]

@@ -83,6 +83,11 @@ judge_binary() {
             echo "status of $command --binary; "
         cmp -s found/octets expected/$command.octets || echo "octets of $command --binary; "
         cmp -s found/report found/$command.report || echo "report of $command --binary; "
+        # shellcheck disable=SC2046
+        cat "$2" | "$tmx" $command --binary --settings "$1" $(words_of $command found) 2>found/report >found/octets ||
+            echo "status of $command --binary in a pipe; "
+        cmp -s found/octets expected/$command.octets || echo "octets of $command --binary in a pipe; "
+        cmp -s found/report found/$command.report || echo "report of $command --binary in a pipe; "
     done
 }
 

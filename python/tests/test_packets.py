@@ -52,9 +52,9 @@ class Given(TestCase):
     """What a program gives, altered on its way."""
 
     def gives(self, octets: bytes) -> None:
-        """Has the program give these octets by `--binary`."""
+        """Has the program give these octets of the example by `--binary`."""
         Path("octets").write_bytes(octets)
-        self.program('case "$*" in *--binary*) exec cat octets;; esac\nexec "$real" "$@"')
+        self.program('case "$*" in *--binary*pass.rec) exec cat octets;; esac\nexec "$real" "$@"')
 
     def altered_packets(self):
         """Without the last octet, with another one behind, with other leads, and another length in a header."""
@@ -91,6 +91,15 @@ class Given(TestCase):
                 self.raises(tmx.DisagreementError, None, lambda: list(example().fields(ATTITUDE, 101, **how)))
         self.gives(rows)
         self.assertEqual(example().fields(ATTITUDE, 101).rows, 503)
+
+    def test_rows_of_half_and_of_twice_the_length(self) -> None:
+        """Of an even number of rows, whose leads are right at each stride."""
+        for name, bits in (("long", 384), ("short", 128)):
+            Path(name).write_text(f"name,data_type,bit_length\nDATA,str,{bits}\n")
+        self.assertEqual(example().fields("long", 201).rows, 42)
+        for read, other in (("long", "short"), ("short", "long")):
+            self.program(f'case "$*" in *--binary*) exec "$real" $(echo "$@" | sed s/{read}/{other}/);; esac\nexec "$real" "$@"')
+            self.raises(tmx.DisagreementError, None, example().fields, read, 201)
 
     def test_a_definition_that_the_program_reads_otherwise(self) -> None:
         self.program('[ "$1" = fields ] || exec "$real" "$@"\n"$real" "$@" | sed 1s/STARS/OTHERS/')

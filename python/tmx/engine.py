@@ -270,7 +270,7 @@ class Engine:
         packets, lines, line = [], [], ctypes.create_string_buffer(LINE_MOST)
         for number, (seen, from_, length, at, place, kind, channel) in enumerate(PLACED.iter_unpack(events)):
             if kind == EVENT_PACKET:
-                packets.append(read_packet((seen, from_, place, channel, length), octets[at : at + length]))
+                packets.append(read_packet((seen, from_, place, channel), octets[at : at + length]))
             elif self.library.tmx_event_line(events[number * EVENT.size : (number + 1) * EVENT.size], line, LINE_MOST):
                 lines.append(line.value.decode())
         return Given(packets, list(read_lines("\n".join(lines), REPORT)))

@@ -5,6 +5,7 @@ import csv
 import io
 import os
 import shutil
+import struct
 import tempfile
 from collections.abc import Collection, Iterable, Iterator, Mapping, Sequence
 from contextlib import contextmanager
@@ -34,6 +35,7 @@ Name = str | os.PathLike[str]
 MOST_ROWS, MOST_COLUMNS = 10, 20  # that are shown
 SHORT_PACKET = b"shortpacket "  # how its line begins
 CHANNEL = 8  # its place in a row
+FRAME = 2048  # octets of a frame of `long_packet`
 
 
 class Fields(Mapping[str, Any]):
@@ -310,8 +312,11 @@ def whole_rows(runs: Runs, octets: bytes, length: int) -> Iterator[bytes]:
             yield octets[:end]
         octets = runs.chunk(0)
     if rest:
-        said = f"the program's rows have another length than {length} octets, which the definition says"
-        raise runs.runs[0].fault() or DisagreementError(said)
+        raise runs.runs[0].fault() or other_length(length)
+
+
+def other_length(length: int) -> DisagreementError:
+    return DisagreementError(f"the program's rows have another length than {length} octets, which the definition says")
 
 
 def check_leads(rows: bytes, length: int, apid: int) -> None:
@@ -324,15 +329,28 @@ def check_leads(rows: bytes, length: int, apid: int) -> None:
 
 
 def columns_of(definition: Name) -> list[Column]:
-    """The columns of a definition.  Raises DisagreementError where they have other names than the program prints."""
+    """The columns of a definition.  Raises DisagreementError where the program prints other names, or its row has another length."""
     columns = read_definition(definition)
     line = ["fields", "--definition", os.fspath(definition), "--apid", "0", "--report", os.devnull]
-    with running(Source(os.devnull), Settings(0, 9, False), Command(line)) as runs:
+    printed, written = Command(line), Command([*line, "--binary"])
+    with running(Source(io.BytesIO(long_packet())), Settings(0, FRAME, False), printed, written) as runs:
         text = b"".join(line_blocks(runs, 0)).decode("utf-8", "surrogateescape")
+        row = b"".join(iter(lambda: runs.chunk(1), b""))
         runs.finish()
     with long_values():
         head: list[str] = next(csv.reader(io.StringIO(text, newline="")), [])
-    names = [it.name for it in columns]
+    names, length = [it.name for it in columns], Kinds(columns).places()[-1]
     if head != names:
         raise DisagreementError(f"the program's columns are not those of the definition: {head} and {names}")
+    if len(row) != length:
+        raise other_length(length)
     return columns
+
+
+def long_packet() -> bytes:
+    """A recording with one packet, of application 0, which has 65542 octets, enough for any definition, and ends with the last frame."""
+    frames, room = 33, FRAME - 6
+    data = (b"\0\0\xc0\0\xff\xff" + bytes(65536)).rjust(frames * room, b"\0")
+    pointers = [len(data) - 65542, *[2047] * (frames - 1)]
+    heads = (struct.pack(">HBBH", 0, it, it, 0x1800 | pointer) for it, pointer in enumerate(pointers))
+    return b"".join(head + data[it * room : (it + 1) * room] for it, head in enumerate(heads))

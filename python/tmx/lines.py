@@ -79,17 +79,18 @@ class Short(Line):
 
 # Packets, as `tmx packets --binary` writes them.
 
-Lead = tuple[int, int, int, int, int]  # the record that completes it, that in which it begins, its place, its channel, its octets
+Lead = tuple[int, ...]  # the record that completes it, that in which it begins, its place and its channel; others aren't used
+Parts = tuple[Lead, bytes]  # the lead of a packet and its octets, which say all of it
 
 TYPES = ("tm", "tc")
 FLAGS = ("continuation", "first", "last", "unsegmented")
 
 
 class PacketParts:
-    """The lead of a packet and its octets, which say all of it."""
+    """What a packet keeps."""
 
     __slots__ = ("parts",)
-    parts: tuple[Lead, bytes]
+    parts: Parts
 
 
 def value_of(read: Callable[[Any], Any]) -> Any:
@@ -140,19 +141,19 @@ class Packet(PacketParts):
         octets: bytes,
     ) -> None:
         """Raises ValueError where the octets' header says otherwise."""
-        keep_parts(self, ((record, from_, at, channel, len(octets)), octets))
+        keep_parts(self, ((record, from_, at, channel), octets))
         if len(octets) < 7 or (self.type, self.secondary, self.apid, self.flags, self.count) != (type, secondary, apid, flags, count):
             raise ValueError("the packet's header has another type, secondary header, application, flags or count")
 
     def __eq__(self, other: object) -> bool:
         if not isinstance(other, Packet):
             return NotImplemented
-        return self.parts == other.parts
+        return self.parts[0][:4] == other.parts[0][:4] and self.octets == other.octets
 
     def __hash__(self) -> int:
-        return hash(self.parts)
+        return hash((self.parts[0][:4], self.octets))
 
-    def __reduce__(self) -> tuple[Callable[[Lead, bytes], "Packet"], tuple[Lead, bytes]]:
+    def __reduce__(self) -> tuple[Callable[[Lead, bytes], "Packet"], Parts]:
         return read_packet, self.parts
 
     def __str__(self) -> str:
@@ -164,7 +165,7 @@ class Packet(PacketParts):
         )
 
 
-keep_parts: Callable[[Packet, tuple[Lead, bytes]], None] = vars(PacketParts)["parts"].__set__
+keep_parts: Callable[[Packet, Parts], None] = vars(PacketParts)["parts"].__set__
 new_packet: Callable[[type[Packet]], Packet] = object.__new__  # without the constructor, which would look at all values
 
 

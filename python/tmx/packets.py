@@ -9,14 +9,14 @@ from typing import Any, NamedTuple
 
 from .arguments import APPLICATIONS, CHANNELS, Numbers, numbers
 from .errors import DisagreementError
-from .lines import Packet, keep_parts, new_packet
+from .lines import Packet, Parts, read_packet
 from .notes import numbered, warn
 from .runs import Runs
 from .values import module
 
-LEAD = struct.Struct("<IIHHI")  # the record, that of the beginning, the place there, the channel and a zero, the octets
-LENGTH = struct.Struct("<12xI")  # the last of these
-HEADED = LEAD.size + 6  # octets of a lead and of a packet's header
+LEAD = 16  # octets of a lead: the record, that of the beginning, the place there, the channel and a zero, the octets
+HEAD = struct.Struct("<IIHHI4xBB")  # these, and the last two octets of the packet's header, which say its length
+LENGTH = struct.Struct("<12xI")  # the octets of a lead alone
 
 # The same and the header in an array of numpy, and what is given of both.
 HEADS = [
@@ -49,10 +49,6 @@ class Chosen:
     apids: frozenset[int] | None = None
     channels: frozenset[int] | None = None
 
-    @property
-    def is_all(self) -> bool:
-        return self.apids is None and self.channels is None
-
     def has(self, apid: int, channel: int) -> bool:
         return (self.apids is None or apid in self.apids) and (self.channels is None or channel in self.channels)
 
@@ -84,54 +80,57 @@ def chosen(apid: Numbers, channel: Numbers) -> Chosen:
 
 def all_packets(runs: Runs, number: int) -> Iterator[Packet]:
     """The packets that the run of this number gives, one by one.  Raises what `blocks_of` raises."""
-    return (packet for block in blocks_of(runs, Missing(Chosen()), number) for packet in block)
+    return (read_packet(*it) for block in blocks_of(runs, Missing(Chosen()), number) for it in block)
 
 
-def blocks_of(runs: Runs, missing: Missing, number: int = 0) -> Iterator[list[Packet]]:
-    """The chosen packets that a run gives, some at a time.  What they are leaves `missing`.
+def blocks_of(runs: Runs, missing: Missing, number: int = 0) -> Iterator[list[Parts]]:
+    """The parts of the chosen packets that a run gives, some at a time.  What they are leaves `missing`.
 
     Raises the run's error where it ends by one, and DisagreementError where its last packet isn't whole.
     """
     rest = b""
     while octets := runs.chunk(number):
         block = rest + octets
-        packets, end = packets_in(block, missing)
+        found, end = parts_in(block)
         missing.all = missing.all and not end
         rest = block[end:]
-        yield packets
+        yield chosen_parts(found, missing)
     if rest:
         raise runs.runs[number].fault() or not_whole(rest)
 
 
-def packets_in(block: bytes, missing: Missing) -> tuple[list[Packet], int]:
-    """The chosen packets that lie whole in a block, and where the first begins that doesn't."""
-    at, last, length = 0, len(block) - HEADED, len(block)
-    found: list[Packet] = []
-    chosen, is_all = missing.chosen, missing.chosen.is_all
-    unpack: Callable[[bytes, int], Any] = LEAD.unpack_from
+def parts_in(block: bytes) -> tuple[list[Parts], int]:
+    """The parts of the packets that lie whole in a block, and where the first begins that doesn't."""
+    at, last, length = 0, len(block) - HEAD.size, len(block)
+    found: list[Parts] = []
+    unpack: Callable[[bytes, int], Any] = HEAD.unpack_from
     while at <= last:
         lead = unpack(block, at)
-        begin = at + 16
+        begin = at + LEAD
         end = begin + lead[4]
-        if lead[4] != (block[at + 20] << 8 | block[at + 21]) + 7 or lead[3] > 7:
-            raise other_lead(block[at : at + HEADED])
+        if lead[4] - 7 != lead[5] << 8 | lead[6] or lead[3] > 7:
+            raise other_lead(block[at : at + HEAD.size])
         if end > length:
             break
         at = end
-        if not is_all:
-            apid, channel = (block[begin] & 7) << 8 | block[begin + 1], lead[3]
-            missing.channels.discard(channel)
-            if not chosen.has(apid, channel):
-                continue
-            missing.apids.discard(apid)
-        packet = new_packet(Packet)
-        keep_parts(packet, (lead, block[begin:end]))
-        found.append(packet)
+        found.append((lead, block[begin:end]))
     return found, at
 
 
+def chosen_parts(found: list[Parts], missing: Missing) -> list[Parts]:
+    """The chosen ones.  What they are leaves `missing`."""
+    apids, channels = missing.chosen.apids, missing.chosen.channels
+    if channels is not None:
+        missing.channels.difference_update([lead[3] for lead, _ in found])
+        found = [it for it in found if it[0][3] in channels]
+    if apids is not None:
+        found = [it for it in found if (it[1][0] & 7) << 8 | it[1][1] in apids]
+        missing.apids.difference_update([(octets[0] & 7) << 8 | octets[1] for _, octets in found])
+    return found
+
+
 def not_whole(octets: bytes) -> DisagreementError:
-    return DisagreementError(f"the program's last packet isn't whole: {octets[:HEADED].hex(' ')}")
+    return DisagreementError(f"the program's last packet isn't whole: {octets[:HEAD.size].hex(' ')}")
 
 
 def other_lead(octets: bytes) -> DisagreementError:
@@ -160,10 +159,10 @@ def array_of(runs: Runs, missing: Missing) -> PacketArray:
 
 def add_offsets(octets: memoryview, at: int, offsets: "array[int]") -> int:
     """Adds where each lead begins from here on.  Where the one begins that isn't there yet."""
-    last, unpack = len(octets) - HEADED, LENGTH.unpack_from
+    last, unpack = len(octets) - HEAD.size, LENGTH.unpack_from
     while at <= last:
         offsets.append(at)
-        at += LEAD.size + unpack(octets, at)[0]
+        at += LEAD + unpack(octets, at)[0]
     return at
 
 
@@ -172,12 +171,12 @@ def read_array(numpy: Any, octets: bytes, each: "array[int]") -> Any:
     offsets = numpy.frombuffer(each, "q")
     if not each:
         return numpy.empty(0, GIVEN)
-    at_each_octet = numpy.ndarray(len(octets) - HEADED + 1, HEADS, octets, strides=(1,))
+    at_each_octet = numpy.ndarray(len(octets) - HEAD.size + 1, HEADS, octets, strides=(1,))
     heads, found = at_each_octet[offsets], numpy.empty(len(offsets), GIVEN)
     wrong = (heads["channel"] > 7) | (heads["octets"] != heads["length"].astype("u4") + 7)
     if wrong.any():
         at = int(offsets[wrong.argmax()])
-        raise other_lead(octets[at : at + HEADED])
+        raise other_lead(octets[at : at + HEAD.size])
     for name in ("record", "channel", "from_", "at", "octets"):
         found[name] = heads[name]
     found["type"] = heads["identification"] >> 12 & 1
@@ -185,7 +184,7 @@ def read_array(numpy: Any, octets: bytes, each: "array[int]") -> Any:
     found["apid"] = heads["identification"] & 0x7FF
     found["flags"] = heads["sequence"] >> 14
     found["count"] = heads["sequence"] & 0x3FFF
-    found["offset"] = offsets + LEAD.size
+    found["offset"] = offsets + LEAD
     return found
 
 

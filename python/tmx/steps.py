@@ -5,12 +5,13 @@ import tempfile
 import time
 from collections.abc import Iterator, Sequence
 from dataclasses import dataclass, replace
+from itertools import chain
 from pathlib import Path
 
 from .arguments import RECORDS, Number, number
 from .checkpoints import CutBackError, Name, NewFile, records_done
 from .errors import RunError
-from .lines import Packet
+from .lines import Packet, keep_parts, new_packet
 from .notes import warn_of_nothing
 from .packets import Chosen, Missing, PacketArray, array_of, blocks_of
 from .progress import Progress
@@ -81,8 +82,10 @@ class Job:
         """The packets; the program keeps the job in a file."""
         missing = Missing(self.chosen)
         with running(self.source, self.settings, self.command(kept), progress=self.progress) as runs:
-            for packets in blocks_of(runs, missing):
-                yield from packets
+            for parts in chain.from_iterable(blocks_of(runs, missing)):
+                packet = new_packet(Packet)  # here and not in a list, which Python's collector would go through
+                keep_parts(packet, parts)
+                yield packet
             runs.finish()
         self.warn(runs, missing)
 

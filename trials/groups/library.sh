@@ -66,11 +66,16 @@ header() {
     told "$@" -Wall -Wextra -pedantic -Werror -fsyntax-only -I "$here/../include" "$here/../include/tmx.h"
 }
 
+# How the names that nm lists of a library differ from those that the header declares. All of these are functions.
+other_names() {
+    nm --defined-only "$@" | sed -nE 's/^[0-9a-f]+ //p' | sort | diff declared - 2>&1
+}
+
 # What the libraries hand out: what the header declares, and nothing else. A program asks for libtmx.so by a name with its number.
 library_names() {
-    sed -nE 's/^[a-z].*[ *](tmx_[a-z_]+)\(.*/\1/p' "$here/../include/tmx.h" | sort >declared
-    tell "the archive has the names of the header" "$(nm -g --defined-only library/libtmx.a | sed -n 's/.* T //p' | sort | diff declared - 2>&1)"
-    tell "the shared library has the names of the header" "$(nm -D --defined-only library/libtmx.so | sed -n 's/.* T //p' | sort | diff declared - 2>&1)"
+    sed -nE 's/^[a-z].*[ *](tmx_[a-z_]+)\(.*/T \1/p' "$here/../include/tmx.h" | sort >declared
+    tell "the archive has the names of the header" "$(other_names -g library/libtmx.a)"
+    tell "the shared library has the names of the header" "$(other_names -D library/libtmx.so)"
     tell "libtmx.so is libtmx.so.0" "$(cmp library/libtmx.so library/libtmx.so.0 2>&1
         readelf -d library/libtmx.so | grep -q 'SONAME.*\[libtmx\.so\.0\]' || echo "no libtmx.so.0")"
     tell "the header has the version of tmx.pc" "$(sed -n 's/^#define TMX_VERSION_NUMBER //p' "$here/../include/tmx.h" \

@@ -134,7 +134,7 @@ library_calls() {
     tell "1,000,000 calls leave no memory behind" "$(told ./calls many 500000 small.toml "$rec")"
 }
 
-# Jobs in little memory, between pages that nobody may touch, in threads and on small stacks.
+# Jobs and calls of tmx_run in little memory, between pages that nobody may touch, in threads and on small stacks.
 library_jobs() {
     local flags=(-std=gnu11 -g -O1 -pthread -I "$here/../include" -Wl,--wrap=malloc,--wrap=realloc,--wrap=free)
     gcc "${flags[@]}" -o jobs "$here/jobs.c" library/libtmx.a 2>made || cat made
@@ -142,10 +142,14 @@ library_jobs() {
     says "jobs between pages that nobody may touch" ./jobs guarded "$s" "$rec"
     says "a job that threads hand on, with stacks of 128 KiB" ./jobs handed "$s" "$rec"
     says "jobs in threads" ./jobs threads "$s" "$rec"
+    says "each request of tmx_run for memory is refused" ./jobs refused_calls "$s" "$rec"
+    says "calls of tmx_run between pages that nobody may touch" ./jobs guarded_calls "$s" "$rec"
+    says "calls of tmx_run in threads" ./jobs threads_calls "$s" "$rec"
     if clang "${flags[@]}" -fsanitize=thread -o jobs_seen "$here/jobs.c" library/libtmx.a 2>made; then
         says "jobs in threads under ThreadSanitizer" ./jobs_seen threads "$s" "$rec"
+        says "calls of tmx_run in threads under ThreadSanitizer" ./jobs_seen threads_calls "$s" "$rec"
     else
-        skip 1 "jobs in threads under ThreadSanitizer" "no clang that has it"
+        skip 2 "jobs and calls of tmx_run in threads under ThreadSanitizer" "no clang that has it"
     fi
 }
 
@@ -174,12 +178,12 @@ library() {
     # guards: tmx_run-answers-in-numbers-what-the-call-gave
     # guards: a-job-that-is-fed-gives-just-the-events-of-its-octets
     # guards: calls-on-a-job-do-what-the-job-does
-    plan 38
+    plan 42
     names
     if [ -n "${LIBRARY:-}" ]; then
         cp -r "$LIBRARY" library
     elif ! command -v rt >/dev/null || ! command -v cc >/dev/null; then
-        skip 38 "the library" "no rt, or no C compiler"
+        skip 42 "the library" "no rt, or no C compiler"
         return
     elif ! make_library; then
         no "the library is made: $(tail -n 3 made)"
@@ -193,7 +197,7 @@ library() {
         library_jobs
         library_stack
     else
-        skip 36 "the library from C and Rust" "no gcc"
+        skip 40 "the library from C and Rust" "no gcc"
     fi
     part library.py python3 "$here/library.py" "$tmx" "$PWD/library/libtmx.so" "${CHUNKED:-40}"
     part test_engine env "TMX=$tmx" "TMX_LIBRARY=$PWD/library/libtmx.so" python3 "$here/../python/tests/run.py" test_engine

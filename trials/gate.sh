@@ -6,7 +6,8 @@
 # TMX is the program. Each group is run with a `python3` that is killed at once, and, where a part of it is a program in Python, with one that
 # ends in order after two lines. It is run with a program that fails and prints nothing, and with one that answers 0 to everything. Its status
 # has to be another than 0, and its last line has to count failures. `library` takes the library that LIBRARY names, without a compiler: so its
-# Python parts alone are tried. Each run ends at its first failure. Groups of a few lines show each rule by which trials are counted, and so does
+# Python parts alone are tried. It is run besides with a program that drops an octet where it goes on from a checkpoint, and with a library that
+# tells a length one octet too large. Each run ends at its first failure. Groups of a few lines show each rule by which trials are counted, and so does
 # a copy of ./test over stubs. Prints a line for each trial and a count, as hostile.sh does.
 set -u
 here=$(cd "$(dirname "$0")" && pwd)
@@ -53,6 +54,23 @@ make_stubs() {
     program short/python3 <<<"'$python' \"\$@\" 2>&1 | head -n 2"
     program failing/tmx <<<'exit 1'
     program silent/tmx <<<'exit 0'
+    program dropping/tmx <<<"if [[ \" \$* \" == *' --resume '* ]]; then '$tmx' \"\$@\" | head -c -1; else exec '$tmx' \"\$@\"; fi"
+}
+
+# A library whose calls of tmx_run tell one octet too many of the report. Without a C compiler it is none at all.
+make_wrong_library() {
+    local words="const struct tmx_request *a, uint8_t *b, size_t c, uint8_t *d, size_t e, uint8_t *f, size_t g, struct tmx_answer *answer"
+    mkdir -p longer/libtmx
+    ar -x --output longer "$LIBRARY/libtmx.a" && objcopy --redefine-sym tmx_run=right_run longer/tmx.o \
+        && gcc -shared -fPIC -I "$here/../include" -o longer/libtmx/libtmx.so longer/tmx.o -x c - <<END
+#include "tmx.h"
+uint32_t right_run($words);
+uint32_t tmx_run($words) {
+    uint32_t status = right_run(a, b, c, d, e, f, g, answer);
+    answer->report_length++;
+    return status;
+}
+END
 }
 
 # Links to all programs of the PATH but compilers.
@@ -71,6 +89,8 @@ name_of() {
     short) echo "with a python3 that ends after two lines" ;;
     failing) echo "with a program that fails and prints nothing" ;;
     silent) echo "with a program that answers 0 to everything" ;;
+    dropping) echo "with a program that drops an octet where it goes on" ;;
+    longer) echo "with a library that tells a length one octet too large" ;;
     esac
 }
 
@@ -78,6 +98,7 @@ name_of() {
 cases_of() {
     echo killed failing silent
     [[ " $with_parts " != *" $1 "* ]] || echo short
+    [ "$1" != library ] || echo dropping longer
 }
 
 # How a run ended, by its status and the file that it wrote: `as a failure`, or with what.
@@ -102,7 +123,9 @@ tell_failed() {
 # programs was killed.
 run_group() {
     local used=$tmx path=$folder/$1:$PATH
+    local -x LIBRARY=${LIBRARY:-}
     [ ! -e "$1/tmx" ] || used=$folder/$1/tmx
+    [ ! -e "$1/libtmx" ] || LIBRARY=$folder/$1/libtmx
     [ "$2" != library ] || path=$folder/$1:$folder/plain
     PATH=$path timeout 100 "$here/hostile.sh" "$used" "$2" >"$1/$2" 2>"$1/$2.errors" </dev/null
     ended $? "$1/$2" >"$1/$2.ended"
@@ -123,6 +146,7 @@ run_groups() {
 try_groups() {
     local group case
     make_stubs
+    [[ " $* " != *" library "* ]] || make_wrong_library 2>/dev/null
     without_compilers
     run_groups "$@"
     for group in "$@"; do
@@ -229,7 +253,7 @@ try_test
 groups=()
 for group in "$@"; do
     if [ "$group" = library ] && ! [ -d "${LIBRARY:-}" ]; then
-        skip 4 "library" "LIBRARY names no library"
+        skip "$(cases_of library | wc -w)" "library" "LIBRARY names no library"
     else
         groups+=("$group")
     fi

@@ -1,10 +1,13 @@
-/* Jobs of libtmx in little memory, between pages that nobody may touch, in threads and on small stacks. Link it with
+/* Jobs and calls of libtmx in little memory, between pages that nobody may touch, in threads and on small stacks. Link it with
    -Wl,--wrap=malloc,--wrap=realloc,--wrap=free.
 
-   jobs refused SETTINGS RECORDING    each request for memory is refused in turn: of all calls that make any
-   jobs guarded SETTINGS RECORDING    all that is read and written stands directly before and behind such pages, in pieces of many lengths
-   jobs threads SETTINGS RECORDING    eight threads, each with a job of its own
-   jobs handed SETTINGS RECORDING     each call on a job is made by another thread: one with a stack of 3 MiB opens it, all others have 128 KiB
+   jobs refused SETTINGS RECORDING          each request for memory is refused in turn: of all calls that make any
+   jobs guarded SETTINGS RECORDING          all that is read and written stands directly before and behind such pages, in pieces of many lengths
+   jobs threads SETTINGS RECORDING          eight threads, each with a job of its own
+   jobs handed SETTINGS RECORDING           the calls on a job are made by many threads: one with a stack of 3 MiB opens it, all others have 128 KiB
+   jobs refused_calls SETTINGS RECORDING    as `refused`, of tmx_run by each command, with room and without
+   jobs guarded_calls SETTINGS RECORDING    as `guarded`, of tmx_run by each command, also in rooms that are too small
+   jobs threads_calls SETTINGS RECORDING    eight threads, each of which calls tmx_run by each command, with rooms of its own
 
    The last line says what was done. The status is 0 where nothing is wrong. */
 #include "tmx.h"
@@ -77,9 +80,9 @@ static struct octets file_octets(const char *name, size_t times) {
     return it;
 }
 
-/* The sums and the numbers of all events and of all octets of packets. How often the rooms were read changes nothing. */
+/* The sums of all events, of their lines and of all octets of packets, and the numbers. How often the rooms were read changes nothing. */
 struct told {
-    uint64_t event_sum, octet_sum, events, octets;
+    uint64_t event_sum, line_sum, octet_sum, events, octets;
 };
 
 static void add(uint64_t *sum, const void *octets, size_t length) {
@@ -87,12 +90,16 @@ static void add(uint64_t *sum, const void *octets, size_t length) {
 }
 
 static void take(struct told *told, const struct tmx_room *room, const struct tmx_progress *did) {
-    size_t at = 0;
+    char line[TMX_LINE_MOST];
+    size_t at = 0, length;
     for (size_t k = 0; k < did->events; k++) {
         struct tmx_event event = room->events[k];
         const int has_octets = event.kind == TMX_EVENT_PACKET || event.kind == TMX_EVENT_ROW;
         if (has_octets && event.at != at) wrong("the place of a packet or row", (long)event.at);
         if (has_octets) at += event.octets;
+        length = tmx_event_line(&event, line, sizeof line);
+        if ((length == 0) != (event.kind == TMX_EVENT_ROW)) wrong("the line of an event", event.kind);
+        add(&told->line_sum, line, length);
         event.at = 0;
         add(&told->event_sum, &event, offsetof(struct tmx_event, why) + 1);
     }
@@ -220,12 +227,29 @@ static int keep_refused(long number, const tmx_job *job, struct octets checkpoin
     return was_made;
 }
 
-/* A definition that the example's packets of application 101 are long enough for. */
-static const char defined[] = "name,data_type,bit_length\nfirst,uint,8\n";
-enum { DEFINED = 101, ROW_LENGTH = 17 };
+/* A definition of so many rows. Each is of eight bits among the first seven octets, which all packets have. */
+enum { DEFINED = 101, HEAD = 16, MANY_ROWS = 1000 };
+static struct octets one_row, many_rows;
 
-static uint32_t define(tmx_job *job, uint16_t application, struct tmx_error *error) {
-    return tmx_job_fields(job, application, (const uint8_t *)defined, sizeof defined - 1, error);
+static struct octets definition(int rows) {
+    struct octets it = {malloc(64 + 32 * (size_t)rows), 0};
+    if (it.at == NULL) exit(3);
+    it.length = (size_t)sprintf((char *)it.at, "name,data_type,bit_length,bit_offset\n");
+    for (int k = 0; k < rows; k++) it.length += (size_t)sprintf((char *)it.at + it.length, "field_%d,uint,8,%d\n", k, k % 48);
+    return it;
+}
+
+/* Whether a row of such a definition has the octets of its fields. */
+static int is_row_of(const uint8_t *packet, const uint8_t *row, size_t fields) {
+    for (size_t k = 0; k < fields; k++) {
+        const uint8_t *at = packet + k % 48 / 8;
+        if (row[HEAD + k] != (uint8_t)((at[0] << 8 | at[1]) >> (8 - k % 8))) return 0;
+    }
+    return 1;
+}
+
+static uint32_t define(tmx_job *job, struct octets text, struct tmx_error *error) {
+    return tmx_job_fields(job, DEFINED, text.at, text.length, error);
 }
 
 /* Likewise of a definition. */
@@ -237,26 +261,27 @@ static int fields_refused(long number) {
     int was_made;
     requests = 0;
     refused_one = number;
-    status = define(job, DEFINED, &error);
+    status = define(job, one_row, &error);
     refused_one = -1;
     was_made = requests > number;
     if (was_made && (status != TMX_MEMORY || strcmp(error.line, "tmx: out of memory") != 0 || tmx_job_row_length(job, DEFINED) != 0))
         wrong("a refused request for a definition", number);
     if (!was_made && status != TMX_DONE) wrong("no request is refused: status", status);
-    if (define(job, DEFINED, &error) != TMX_DONE || tmx_job_row_length(job, DEFINED) != ROW_LENGTH) wrong("the same call afterwards", number);
+    if (define(job, one_row, &error) != TMX_DONE || tmx_job_row_length(job, DEFINED) != HEAD + 1) wrong("the same call afterwards", number);
     tmx_job_free(job);
     if (held != before) wrong("blocks are left behind", held - before);
     return was_made;
 }
 
-/* A job gives a row for each packet, in rooms that go on always. It asks for no memory meanwhile. */
-static void rows_fed(void) {
-    struct tmx_error error;
+/* A job with a definition of so many rows gives one for each packet, in rooms that go on always. It asks for no memory meanwhile. How many packets
+   of other applications it gives. The example's longest packet has 880 octets. */
+static long rows_fed(tmx_job *job, size_t fields) {
     struct tmx_room room;
     struct tmx_progress did;
-    tmx_job *job = opened(none);
-    long rows = 0;
-    if (define(job, DEFINED, &error) != TMX_DONE || tmx_job_most(job, &room.events_room, &room.octets_room) != TMX_DONE) wrong(error.line, error.status);
+    const uint8_t *packet = NULL;
+    long rows = 0, others = 0;
+    if (tmx_job_most(job, &room.events_room, &room.octets_room) != TMX_DONE || room.events_room != TMX_EVENTS_MOST + 292
+        || room.octets_room != 880 + 2041 + 292 * (HEAD + fields)) wrong("the room of octets that goes on always", (long)room.octets_room);
     room.events = malloc(room.events_room * sizeof *room.events);
     room.octets = malloc(room.octets_room);
     requests = 0;
@@ -265,16 +290,18 @@ static void rows_fed(void) {
         if (did.used == 0) wrong("rooms that go on always stop at", (long)at);
         for (size_t k = 0; k < did.events; k++) {
             struct tmx_event event = room.events[k];
-            if (event.application != DEFINED) continue;
-            if (event.kind == TMX_EVENT_PACKET) rows--;
-            if (event.kind == TMX_EVENT_ROW) rows += event.octets == ROW_LENGTH ? 1 : 2;
+            if (event.application != DEFINED) others += event.kind == TMX_EVENT_PACKET;
+            else if (event.kind == TMX_EVENT_PACKET) rows--, packet = room.octets + event.at;
+            else if (event.kind == TMX_EVENT_ROW) rows += event.octets == HEAD + fields && is_row_of(packet, room.octets + event.at, fields) ? 1 : 2;
         }
         if (rows != 0) wrong("rows beyond those of packets", rows);
     }
     if (requests != 0) wrong("feed asks for memory", requests);
+    if (packet == NULL) wrong("no packet of application", DEFINED);
     free(room.events);
     free(room.octets);
     tmx_job_free(job);
+    return others;
 }
 
 static int refused(void) {
@@ -284,6 +311,7 @@ static int refused(void) {
     struct told told = {0};
     tmx_job *job = opened(none);
     struct octets half, unknown = {(uint8_t *)"unknown = 1", 11};
+    struct tmx_error error;
     long made[5] = {0, 0, 0, 0, 0};
     feed(job, recording.at, recording.length / 2, &room, &did, &told);
     half = kept(job);
@@ -295,10 +323,11 @@ static int refused(void) {
     requests = 0;
     feed(job, recording.at + recording.length / 2, recording.length - recording.length / 2, &room, &did, &told);
     end(job, &room, &did, &told);
-    if (requests != 0) wrong("feed and end ask for memory", requests);
+    if (requests != 0) wrong("feed, end and lines ask for memory", requests);
     tmx_job_free(job);
     compare("another recording is told", told);
-    rows_fed();
+    job = opened(none);
+    if (define(job, one_row, &error) != TMX_DONE || rows_fed(job, 1) == 0) wrong("no packets of other applications: status", error.status);
     for (int k = 0; k < 5; k++)
         if (made[k] == 0) wrong("no request was refused of call", k);
     printf("%ld to open a job, %ld to resume one, %ld by an unknown key, %ld for a checkpoint, %ld for a definition\n", made[0], made[1], made[2], made[3],
@@ -324,6 +353,9 @@ static void *guarded_copy(const void *from, size_t length, int behind) {
     return at;
 }
 
+/* The numbers of all applications. */
+static uint16_t applications[2048];
+
 /* All that a job reads and writes between guards. It is fed with pieces of so many octets, and halfway a job from its checkpoint goes on. One
    room is wide and the other as small as may be: with two small ones each call would stop behind a record. */
 static struct told told_guarded(size_t piece, int behind, int wide_events) {
@@ -332,13 +364,12 @@ static struct told told_guarded(size_t piece, int behind, int wide_events) {
     struct tmx_progress *did = guarded_room(sizeof *did, behind);
     struct tmx_error *error = guarded_room(sizeof *error, behind);
     uint8_t *text = guarded_copy(settings.at, settings.length, behind), *octets = guarded_room(piece, behind), *checkpoint;
-    uint16_t *applications = guarded_room(2048 * sizeof *applications, behind);
+    const uint16_t *all = guarded_copy(applications, sizeof applications, behind);
     struct told told = {0};
     tmx_job *job;
     size_t length, at = 0;
-    for (uint16_t k = 0; k < 2048; k++) applications[k] = k;
     *room = (struct tmx_room){guarded_room(events_room * sizeof(struct tmx_event), behind), events_room, guarded_room(octets_room, behind), octets_room};
-    if (tmx_job_new(&job, text, settings.length, error) != TMX_DONE || tmx_job_only(job, applications, 2048) != TMX_DONE) wrong(error->line, error->status);
+    if (tmx_job_new(&job, text, settings.length, error) != TMX_DONE || tmx_job_only(job, all, 2048) != TMX_DONE) wrong(error->line, error->status);
     for (int half = 1; half <= 2; half++) {
         for (; at < (half == 1 ? recording.length / 2 : recording.length); at += piece) {
             size_t more = recording.length - at < piece ? recording.length - at : piece;
@@ -409,13 +440,18 @@ static void *tell(void *told) {
     return NULL;
 }
 
-static int threads(void) {
-    static struct told told[THREADS][ROUNDS];
+/* Has each thread do it with its own part of an array. */
+static void in_threads(void *(*call)(void *), void *parts, size_t size) {
     pthread_t all[THREADS];
-    for (int k = 0; k < THREADS; k++)
-        if (pthread_create(&all[k], NULL, tell, told[k]) != 0) exit(3);
+    for (size_t k = 0; k < THREADS; k++)
+        if (pthread_create(&all[k], NULL, call, (uint8_t *)parts + k * size) != 0) exit(3);
     for (int k = 0; k < THREADS; k++)
         if (pthread_join(all[k], NULL) != 0) exit(3);
+}
+
+static int threads(void) {
+    static struct told told[THREADS][ROUNDS];
+    in_threads(tell, told, sizeof *told);
     for (int k = 0; k < THREADS * ROUNDS; k++) compare("a thread is told otherwise", told[k / ROUNDS][k % ROUNDS]);
     printf("%d threads, each with %d jobs one after another\n", THREADS, ROUNDS);
     return 0;
@@ -450,10 +486,18 @@ static void *keep(void *unused) {
     return unused;
 }
 
+/* One job gives the packets of all applications, the other those of one, and their rows. */
 static void *name_fields(void *unused) {
+    tmx_job *job = handed_on.defined;
     struct tmx_error error;
-    if (define(handed_on.defined, DEFINED, &error) != TMX_DONE) wrong(error.line, error.status);
-    tmx_job_free(handed_on.defined);
+    if (define(job, many_rows, &error) != TMX_DONE) wrong(error.line, error.status);
+    if (tmx_job_row_length(job, DEFINED) != HEAD + MANY_ROWS || tmx_job_row_length(job, DEFINED + 1) != 0) wrong("the length of rows of", DEFINED);
+    if (tmx_job_only(job, applications + DEFINED, 1) != TMX_DONE || tmx_job_only(handed_on.job, applications, 2048) != TMX_DONE) wrong("only", DEFINED);
+    return unused;
+}
+
+static void *feed_rows(void *unused) {
+    if (rows_fed(handed_on.defined, MANY_ROWS) != 0) wrong("packets of other applications than", DEFINED);
     return unused;
 }
 
@@ -498,6 +542,7 @@ static int handed(void) {
     for (size_t half = 1; half <= 2; half++) {
         hand(begin, OPENING);
         hand(name_fields, OTHER);
+        hand(feed_rows, OTHER);
         for (; at < recording.length / 2 * half; at += handed_on.piece.length, pieces++) {
             size_t rest = recording.length - at;
             handed_on.piece = (struct octets){recording.at + at, rest < 3 * record + 1 ? rest : 3 * record + 1};
@@ -512,15 +557,169 @@ static int handed(void) {
     return pieces == 0;
 }
 
+/* ---- calls of tmx_run */
+
+/* What a call gave: its answer, and the sum of what stands in its rooms if they are large enough. */
+struct gave {
+    struct tmx_answer answer;
+    uint64_t sum;
+};
+
+static struct gave run(const struct tmx_request *request, const struct octets rooms[3], struct tmx_answer *answer) {
+    struct gave gave = {{0}, 0};
+    uint32_t status;
+    memset(answer, 0xa5, sizeof *answer);
+    status = tmx_run(request, rooms[0].at, rooms[0].length, rooms[1].at, rooms[1].length, rooms[2].at, rooms[2].length, answer);
+    if (status != answer->status) wrong("the answer has another status", answer->status);
+    gave.answer = *answer;
+    if (status != TMX_DONE) return gave;
+    add(&gave.sum, rooms[0].at, answer->out_length);
+    add(&gave.sum, rooms[1].at, answer->report_length);
+    add(&gave.sum, rooms[2].at, answer->checkpoint_length);
+    return gave;
+}
+
+static void compare_gave(const char *what, struct gave gave, struct gave wanted_of_it) {
+    if (memcmp(&gave, &wanted_of_it, sizeof gave) != 0) wrong(what, gave.answer.status);
+}
+
+/* The calls of the trials, and what each has to give. */
+static struct call {
+    struct tmx_request request;
+    struct gave wanted;
+} calls[32];
+static size_t planned;
+
+/* A room that is large enough for any of them. It is painted, unlike those between guards, so that an octet that nobody wrote shows. */
+static struct octets wide_room(void) {
+    struct octets it = {malloc(1 << 20), 1 << 20};
+    if (it.at == NULL) exit(3);
+    memset(it.at, 0xa5, it.length);
+    return it;
+}
+
+/* By each command three calls over the recording, which go on from one to the next and leave a part of a record. The summary takes one. */
+static void plan_calls(void) {
+    struct octets rooms[3] = {wide_room(), wide_room(), wide_room()};
+    struct tmx_answer answer;
+    for (uint32_t command = TMX_EXTRACT; command <= TMX_BINARY_FIELDS; command++) {
+        const size_t piece = command == TMX_SUMMARY ? recording.length : recording.length / 3 + 1;
+        struct tmx_request request = {{settings.at, settings.length}, {NULL, 0}, {NULL, 0}, {one_row.at, one_row.length}, command, DEFINED, 0};
+        for (size_t at = 0; !request.last; at += answer.used, rooms[2] = wide_room()) {
+            request.last = at + piece >= recording.length;
+            request.octets = (struct tmx_octets){recording.at + at, request.last ? recording.length - at : piece};
+            calls[planned].request = request;
+            calls[planned++].wanted = run(&request, rooms, &answer);
+            if (answer.status != TMX_DONE || answer.out_length == 0) wrong("a call gives nothing: status", answer.status);
+            request.checkpoint = (struct tmx_octets){rooms[2].at, answer.checkpoint_length};
+        }
+    }
+}
+
+/* What a call reads, where it can only be read, and rooms that are so many octets too small: all of it between guards. And what it has to give. */
+struct place {
+    const struct tmx_request *request;
+    struct octets rooms[3];
+    struct tmx_answer *answer;
+    struct gave wanted;
+};
+
+static const void *locked_copy(const void *from, size_t length, int behind) {
+    uint8_t *at = guarded_copy(from, length, behind);
+    if (length != 0 && mprotect(at - (uintptr_t)at % page, (uintptr_t)at % page + length, PROT_READ) != 0) exit(3);
+    return at;
+}
+
+static struct place place_of(const struct call *call, int behind, size_t less) {
+    const size_t lengths[3] = {call->wanted.answer.out_length, call->wanted.answer.report_length, call->wanted.answer.checkpoint_length};
+    struct tmx_request request = call->request;
+    struct tmx_octets *read[4] = {&request.settings, &request.checkpoint, &request.octets, &request.definition};
+    struct place place = {.answer = guarded_room(sizeof *place.answer, behind), .wanted = call->wanted};
+    for (int k = 0; k < 4; k++) read[k]->at = locked_copy(read[k]->at, read[k]->length, behind);
+    place.request = locked_copy(&request, sizeof request, behind);
+    for (int k = 0; k < 3; k++) {
+        const size_t length = lengths[k] < less ? 0 : lengths[k] - less;
+        place.rooms[k] = (struct octets){guarded_room(length, behind), length};
+    }
+    if (less != 0) place.wanted.answer.status = TMX_ROOM, place.wanted.sum = 0;
+    return place;
+}
+
+/* Refuses the request of this number in a call, and makes the call again. Whether the request was made. */
+static int call_refused(long number, const struct place *place) {
+    const struct gave out_of_memory = {{.status = TMX_MEMORY}, 0};
+    const long before = held;
+    struct gave gave;
+    int was_made;
+    requests = 0;
+    refused_one = number;
+    gave = run(place->request, place->rooms, place->answer);
+    refused_one = -1;
+    was_made = requests > number;
+    compare_gave(was_made ? "a refused request: status" : "no request is refused: status", gave, was_made ? out_of_memory : place->wanted);
+    compare_gave("the same call afterwards: status", run(place->request, place->rooms, place->answer), place->wanted);
+    if (held != before) wrong("blocks are left behind", held - before);
+    return was_made;
+}
+
+static int refused_calls(void) {
+    long made = 0;
+    plan_calls();
+    for (size_t k = 0; k < 2 * planned; k++) {
+        const struct place place = place_of(&calls[k / 2], 1, k % 2 ? SIZE_MAX : 0);
+        long number = 0;
+        while (call_refused(number, &place)) number++;
+        if (number == 0) wrong("no request was refused of command", place.request->command);
+        made += number;
+    }
+    printf("%ld requests of %zu calls\n", made, 2 * planned);
+    return 0;
+}
+
+static int guarded_calls(void) {
+    const size_t less[] = {0, 1, 7};
+    plan_calls();
+    for (size_t k = 0; k < 6 * planned; k++) {
+        const struct place place = place_of(&calls[k / 6], k % 2, less[k / 2 % 3]);
+        compare_gave("guarded: status", run(place.request, place.rooms, place.answer), place.wanted);
+    }
+    printf("%zu calls\n", 6 * planned);
+    return planned == 0;
+}
+
+/* Makes all calls, from this one on. */
+static void *make_calls(void *first) {
+    const struct octets rooms[3] = {wide_room(), wide_room(), wide_room()};
+    const struct call *call = first;
+    struct tmx_answer answer;
+    for (size_t k = 0; k < ROUNDS * planned; k++) {
+        compare_gave("in a thread: status", run(&call->request, rooms, &answer), call->wanted);
+        if (++call == calls + planned) call = calls;
+    }
+    for (int k = 0; k < 3; k++) free(rooms[k].at);
+    return NULL;
+}
+
+static int threads_calls(void) {
+    plan_calls();
+    in_threads(make_calls, calls, sizeof *calls);
+    printf("%d threads, each with %zu calls\n", THREADS, ROUNDS * planned);
+    return planned < THREADS;
+}
+
 int main(int argc, char **argv) {
     const struct {
         const char *name;
         int (*trial)(void);
-    } trials[] = {{"refused", refused}, {"guarded", guarded}, {"threads", threads}, {"handed", handed}};
+    } trials[] = {{"refused", refused}, {"guarded", guarded}, {"threads", threads}, {"handed", handed},
+                  {"refused_calls", refused_calls}, {"guarded_calls", guarded_calls}, {"threads_calls", threads_calls}};
     tmx_job *job;
     if (argc != 4) return 2;
     settings = file_octets(argv[2], 1);
     recording = file_octets(argv[3], 4);
+    one_row = definition(1);
+    many_rows = definition(MANY_ROWS);
+    for (uint16_t k = 0; k < 2048; k++) applications[k] = k;
     job = opened(none);
     record = tmx_job_record_length(job);
     tmx_job_free(job);

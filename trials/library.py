@@ -1,7 +1,8 @@
 #!/usr/bin/env python3
 """The library libtmx beside the program: random recordings in random chunks give just what one run of the program gives, and each call's number
 `strict` is what its frames and its report tell. Jobs are fed in random pieces, into random rooms. Their events say the program's lines, and so
-does `tmx_event_line` of them. Rows of two definitions are what `tmx fields --binary` writes of each.
+does `tmx_event_line` of them. Rows of two definitions are what `tmx fields --binary` writes of each. The program, a job and `tmx_run` go on from
+each other's checkpoints, and from those of each version.
 
     library.py TMX LIBRARY ROUNDS
 
@@ -22,6 +23,7 @@ sys.path.insert(0, str(HERE))
 sys.dont_write_bytecode = True
 
 import anything  # noqa: E402
+import reference  # noqa: E402
 
 # The numbers of include/tmx.h.
 EXTRACT, PACKETS, FIELDS, FRAMES, SUMMARY, BINARY_PACKETS, BINARY_FIELDS = range(7)
@@ -161,7 +163,7 @@ def differences(program, run, seed):
 
 
 def checkpoints(program, run, example):
-    """How the library's checkpoint differs from the program's, and what goes on from either."""
+    """How the library's checkpoint differs from the program's."""
     settings, recording = (example / "settings.toml").read_bytes(), (example / "pass.rec").read_bytes()
     words = [program, "extract", "--settings", str(example / "settings.toml"), "--report", "report", "--checkpoint", "checkpoint"]
     subprocess.run([*words, "--stop-after", "100", str(example / "pass.rec")], stdout=subprocess.DEVNULL, check=True)
@@ -172,13 +174,13 @@ def checkpoints(program, run, example):
         yield "the library's checkpoint is not the program's"
 
 
-# How many rows and short packets were compared.
+# How many rows, short packets and checkpoints were compared.
 COUNTED = collections.Counter()
 
 
-def none_counted():
-    """That none were."""
-    return [] if COUNTED["rows"] and COUNTED["short"] else [f"only {dict(COUNTED)} came"]
+def none_counted(*names):
+    """Which of these never came."""
+    return [f"none of {name} came" for name in names if not COUNTED[name]]
 
 
 # ---- the job
@@ -328,6 +330,12 @@ class Job:
         self.library.tmx_job_free(self.job)
 
 
+def piece_of(chance, rest, size):
+    """The next octets for a job: none, one, about a record, any number of them, or now and then all."""
+    few = chance.choice([0, 1, size - 1, size, size + 1, chance.randrange(6 * size), len(rest) // 3 + 1])
+    return rest[: len(rest) if chance.random() < 0.1 else few]
+
+
 def job_differences(program, library, seed):
     """How a job that is fed in random pieces, into random rooms, and stopped and resumed now and then, differs from one run."""
     chance = random.Random(seed)
@@ -344,7 +352,7 @@ def job_differences(program, library, seed):
         return
     given, at = [b"", b"", b""], 0
     while at < len(recording):
-        piece = recording[at : at + chance.choice([1, size - 1, size, size + 1, 1 + chance.randrange(6 * size), len(recording) // 3 + 1])]
+        piece = piece_of(chance, recording[at:], size)
         job.feed(piece, EVENTS_MOST + chance.choice([0, 1, 5000]), most + chance.choice([0, 1, 100000]))
         at += len(piece)
         if chance.randrange(4) == 0:
@@ -387,7 +395,7 @@ def row_differences(program, library, seed):
         library.tmx_job_only(job.job, None, ctypes.c_size_t(0))
     at, most = 0, job.most()
     while at < len(recording):
-        piece = recording[at : at + chance.choice([1, settings.record, 1 + chance.randrange(6 * settings.record), len(recording) // 3 + 1])]
+        piece = piece_of(chance, recording[at:], settings.record)
         job.feed(piece, *(it + chance.choice([0, 1, 5000]) for it in most))
         at += len(piece)
     job.end(EVENTS_MOST)
@@ -428,6 +436,72 @@ def job_checkpoints(program, library, example):
         job.free()
 
 
+class Stopped:
+    """A random recording in two runs, the first of which ends behind a random record. A run gives packets, a report and its checkpoint."""
+
+    def __init__(self, program, run, library, seed):
+        chance = random.Random(seed)
+        self.program, self.run, self.library = program, run, library
+        self.settings = anything.make_settings(chance, ".")
+        self.recording = anything.make_recording(chance, seed, self.settings, ".")
+        self.text, size = pathlib.Path("settings").read_bytes(), self.settings.record
+        self.records = chance.randrange(1, len(self.recording) // size + 1)
+        # To a job and to tmx_run a part of the next record is given, too.
+        self.first = self.recording[: self.records * size + chance.choice([0, 1, size - 1])]
+        self.rest = self.recording[self.records * size :]
+
+    def by_program(self, kept=None):
+        """A run of the program: the first, or the one that goes on from this checkpoint."""
+        file, words = pathlib.Path("kept"), ["--checkpoint", "kept", "--stop-after", str(self.records)]
+        if kept is not None:
+            file.write_bytes(kept)
+            words = ["--resume", "kept"]
+        ran = subprocess.run([self.program, "extract", "--settings", "settings", *words, "recording"], capture_output=True, check=True)
+        return ran.stdout, ran.stderr, file.read_bytes()
+
+    def by_job(self, kept=None):
+        """Likewise of a job."""
+        job = Job(self.library, self.text, kept)
+        job.feed(self.first if kept is None else self.rest, EVENTS_MOST, self.settings.max_packet + FIELD_MOST)
+        if kept is not None:
+            job.end(EVENTS_MOST)
+        given = *job.given()[1:], job.checkpoint()
+        job.free()
+        return given
+
+    def by_call(self, kept=None):
+        """Likewise of a call of tmx_run."""
+        texts = (self.text, b"", self.first, b"") if kept is None else (self.text, kept, self.rest, b"")
+        answer, given = call(self.run, texts, EXTRACT, 0, kept is not None)
+        if answer.status != DONE:
+            raise ValueError(f"status {answer.status} fault {answer.fault}")
+        return given
+
+    def by_reference(self, version):
+        """What both runs give where the second goes on from this version of the checkpoint, the checkpoint, and its version."""
+        reader, kept = reference.read_recording(self.settings, self.recording, {self.records: version})
+        return anything.wanted(reader, 0)["extract"], *kept[self.records]
+
+
+def going_on(program, run, library, seed):
+    """How two runs differ from one: the program, a job or tmx_run behind each of these, and behind a checkpoint of each version. An older version
+    lacks the count of all frames, so that a gap of it isn't seen there."""
+    both, one = Stopped(program, run, library, seed), wanted(program, EXTRACT, 0)
+    ways = {"the program": both.by_program, "a job": both.by_job, "tmx_run": both.by_call}
+    starts = [(name, way(), one) for name, way in ways.items()]
+    # Version 1 has no limit on packets.
+    for version in (1, 2, 3) if both.settings.max_packet == reference.LONGEST_PACKET else (2, 3):
+        whole, written, older = both.by_reference(version)
+        yield from (f"seed {seed}: the checkpoint of {name}" for name, given, _ in starts[:3] if given[2] != written)
+        starts.append((f"version {version}", (*starts[0][1][:2], older), whole))
+    for start, (out, report, kept), whole in starts:
+        COUNTED[start] += 1
+        for name, way in ways.items():
+            rest = way(kept)
+            if (out + rest[0], report + rest[1]) != whole:
+                yield f"seed {seed}: {name} behind {start}, record {both.records}: {[it[:80] for it in rest[:2]]}"
+
+
 # ---- the wrapper in Rust
 
 def other_numbers(header, rust):
@@ -453,13 +527,22 @@ def main(program, library, rounds):
     example, rounds = HERE.parent / "example", range(int(rounds))
     many = f"{len(rounds)} random recordings"
     failed = 0
-    print("plan 6", flush=True)
+    print("plan 7", flush=True)
     for name, find in (
         (f"{many} in random chunks give what one run gives", lambda: (it for k in rounds for it in differences(program, run, 7000 + k))),
         ("the library's checkpoint is the program's", lambda: checkpoints(program, run, example)),
         (f"jobs over {many} give what one run gives", lambda: (it for k in rounds for it in job_differences(program, jobs, 8000 + k))),
-        (f"rows of jobs over {many} are what the program gives", lambda: [it for k in rounds for it in row_differences(program, jobs, 9000 + k)] or none_counted()),
+        (
+            f"rows of jobs over {many} are what the program gives",
+            # The first recording has both.
+            lambda: [it for k in rounds for it in row_differences(program, jobs, 9001 + k)] or none_counted("rows", "short"),
+        ),
         ("a job's checkpoint is the program's, and a job goes on from one of each version", lambda: job_checkpoints(program, jobs, example)),
+        (
+            f"the program, jobs and tmx_run go on from each checkpoint over {many} as if none had stopped",
+            # The first recording has each version, and packets on both sides.
+            lambda: [it for k in rounds for it in going_on(program, run, jobs, 6018 + k)] or none_counted("version 1", "version 2", "version 3"),
+        ),
         ("the wrapper in Rust has the numbers of the header", lambda: other_numbers(*texts)),
     ):
         try:

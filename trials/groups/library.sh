@@ -66,11 +66,16 @@ header() {
     told "$@" -Wall -Wextra -pedantic -Werror -fsyntax-only -I "$here/../include" "$here/../include/tmx.h"
 }
 
+# How the names that nm lists of a library differ from those that the header declares. All of these are functions.
+other_names() {
+    nm --defined-only "$@" | sed -nE 's/^[0-9a-f]+ //p' | sort | diff declared - 2>&1
+}
+
 # What the libraries hand out: what the header declares, and nothing else. A program asks for libtmx.so by a name with its number.
 library_names() {
-    sed -nE 's/^[a-z].*[ *](tmx_[a-z_]+)\(.*/\1/p' "$here/../include/tmx.h" | sort >declared
-    tell "the archive has the names of the header" "$(nm -g --defined-only library/libtmx.a | sed -n 's/.* T //p' | sort | diff declared - 2>&1)"
-    tell "the shared library has the names of the header" "$(nm -D --defined-only library/libtmx.so | sed -n 's/.* T //p' | sort | diff declared - 2>&1)"
+    sed -nE 's/^[a-z].*[ *](tmx_[a-z_]+)\(.*/T \1/p' "$here/../include/tmx.h" | sort >declared
+    tell "the archive has the names of the header" "$(other_names -g library/libtmx.a)"
+    tell "the shared library has the names of the header" "$(other_names -D library/libtmx.so)"
     tell "libtmx.so is libtmx.so.0" "$(cmp library/libtmx.so library/libtmx.so.0 2>&1
         readelf -d library/libtmx.so | grep -q 'SONAME.*\[libtmx\.so\.0\]' || echo "no libtmx.so.0")"
     tell "the header has the version of tmx.pc" "$(sed -n 's/^#define TMX_VERSION_NUMBER //p' "$here/../include/tmx.h" \
@@ -129,7 +134,7 @@ library_calls() {
     tell "1,000,000 calls leave no memory behind" "$(told ./calls many 500000 small.toml "$rec")"
 }
 
-# Jobs in little memory, between pages that nobody may touch, in threads and on small stacks.
+# Jobs and calls of tmx_run in little memory, between pages that nobody may touch, in threads and on small stacks.
 library_jobs() {
     local flags=(-std=gnu11 -g -O1 -pthread -I "$here/../include" -Wl,--wrap=malloc,--wrap=realloc,--wrap=free)
     gcc "${flags[@]}" -o jobs "$here/jobs.c" library/libtmx.a 2>made || cat made
@@ -137,10 +142,14 @@ library_jobs() {
     says "jobs between pages that nobody may touch" ./jobs guarded "$s" "$rec"
     says "a job that threads hand on, with stacks of 128 KiB" ./jobs handed "$s" "$rec"
     says "jobs in threads" ./jobs threads "$s" "$rec"
+    says "each request of tmx_run for memory is refused" ./jobs refused_calls "$s" "$rec"
+    says "calls of tmx_run between pages that nobody may touch" ./jobs guarded_calls "$s" "$rec"
+    says "calls of tmx_run in threads" ./jobs threads_calls "$s" "$rec"
     if clang "${flags[@]}" -fsanitize=thread -o jobs_seen "$here/jobs.c" library/libtmx.a 2>made; then
         says "jobs in threads under ThreadSanitizer" ./jobs_seen threads "$s" "$rec"
+        says "calls of tmx_run in threads under ThreadSanitizer" ./jobs_seen threads_calls "$s" "$rec"
     else
-        skip 1 "jobs in threads under ThreadSanitizer" "no clang that has it"
+        skip 2 "jobs and calls of tmx_run in threads under ThreadSanitizer" "no clang that has it"
     fi
 }
 
@@ -169,12 +178,12 @@ library() {
     # guards: tmx_run-answers-in-numbers-what-the-call-gave
     # guards: a-job-that-is-fed-gives-just-the-events-of-its-octets
     # guards: calls-on-a-job-do-what-the-job-does
-    plan 38
+    plan 42
     names
     if [ -n "${LIBRARY:-}" ]; then
         cp -r "$LIBRARY" library
     elif ! command -v rt >/dev/null || ! command -v cc >/dev/null; then
-        skip 38 "the library" "no rt, or no C compiler"
+        skip 42 "the library" "no rt, or no C compiler"
         return
     elif ! make_library; then
         no "the library is made: $(tail -n 3 made)"
@@ -188,7 +197,7 @@ library() {
         library_jobs
         library_stack
     else
-        skip 36 "the library from C and Rust" "no gcc"
+        skip 40 "the library from C and Rust" "no gcc"
     fi
     part library.py python3 "$here/library.py" "$tmx" "$PWD/library/libtmx.so" "${CHUNKED:-40}"
     part test_engine env "TMX=$tmx" "TMX_LIBRARY=$PWD/library/libtmx.so" python3 "$here/../python/tests/run.py" test_engine

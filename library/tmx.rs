@@ -84,12 +84,15 @@ impl fmt::Display for Event<'_> {
     }
 }
 
-/// Why a call was refused. `fault` and `key` are 0 where they say nothing. `Display` gives the program's line, or what the status says.
+/// Why a call was refused. Numbers that say nothing are 0: `key` is of settings, `column` and `row` are of a definition. `Display` gives the
+/// program's line, or what the status says.
 #[derive(Clone, Debug, PartialEq, Eq)]
 pub struct Error {
     pub status: Status,
     pub fault: u32,
     pub key: u32,
+    pub column: u32,
+    pub row: u32,
     line: String,
 }
 
@@ -98,7 +101,8 @@ impl Error {
         let line = CStr::from_bytes_until_nul(&refusal.line).ok().filter(|line| !line.is_empty());
         // The texts of statuses are constants.
         let line = line.unwrap_or_else(|| unsafe { CStr::from_ptr(tmx_status_text(status)) });
-        Error { status: Status::of(status), fault: refusal.fault, key: refusal.key, line: line.to_string_lossy().into() }
+        let Refusal { fault, key, column, row, .. } = *refusal;
+        Error { status: Status::of(status), fault, key, column, row, line: line.to_string_lossy().into() }
     }
 }
 

@@ -143,6 +143,9 @@ fn refusals(settings: &[u8]) {
         let it = refused.err().expect("a refusal");
         assert!((it.status, it.fault, it.key, &it.to_string()[..]) == wanted, "{it:?}");
     }
+    let refused = Job::new(settings).expect("a job").fields(101, b"name,data_type,bit_length\nA,uint,99\n");
+    let it = refused.err().expect("a refusal");
+    assert!((it.status, it.fault, it.column, it.row) == (Status::Definition, 5, 0, 1), "{it:?}");
 }
 
 /// A job that is dropped gives its memory back.

@@ -54,6 +54,13 @@ def text_of(lines):
     return "".join(f"{line}\n" for line in lines).encode("ascii")
 
 
+def in_octets(case, pieces):
+    """The run in the binary form, which gives these."""
+    case.words.append("--binary")
+    case.out, case.ends = b"".join(pieces), {0, *accumulate(map(len, pieces))}
+    return case
+
+
 class Known:
     """What is known of the recording."""
 
@@ -77,10 +84,19 @@ class Known:
         lines = (it[2] for it in self.reader.packets)
         return Case(self.words("packets", *REPORT), text_of(lines), text_of(self.reader.report_of(None)))
 
+    def application(self):
+        return Counter(it[0] for it in self.reader.packets).most_common(1)[0][0]
+
     def fields(self):
-        application = Counter(it[0] for it in self.reader.packets).most_common(1)[0][0]
+        application = self.application()
         words = self.words("fields", *REPORT, "--definition", self.definition, "--apid", str(application))
         return Case(words, text_of(reference.rows(self.reader.packets, application)), text_of(self.reader.report_of(application)))
+
+    def binary_packets(self):
+        return in_octets(self.packets(), list(reference.binary_packets(self.reader.packets)))
+
+    def binary_fields(self):
+        return in_octets(self.fields(), list(reference.binary_rows(self.reader.packets, self.application())))
 
     def extract(self):
         """From a checkpoint before any record, to a new one."""

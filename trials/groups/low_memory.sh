@@ -47,13 +47,13 @@ low_memory() {
     # guards: each-fault-traces-to-a-word-or-a-file
     # guards: each-step-has-only-its-own-faults
     local run
-    plan 11
+    plan 13
     if ! command -v cc >/dev/null || ! refusing_library; then
-        skip 11 "each request for memory refused" "no C compiler, or no glibc"
+        skip 13 "each request for memory refused" "no C compiler, or no glibc"
         return
     fi
     names
-    for run in frames packets extract split waiting fields summary help unknown missing clash; do
+    for run in frames packets binary_packets extract split waiting fields binary_fields summary help unknown missing clash; do
         says "each request for memory of $run refused" \
             python3 "$here/low_memory.py" "$tmx" "$PWD/refused.so" "$s" "$rec" "$here/fields.csv" $run
     done

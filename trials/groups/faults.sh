@@ -492,7 +492,7 @@ instructions_for() {
 }
 
 # The error control of a frame is computed in vectors of the processor. A small change can make LLVM give them up, and no proof shows it: then a frame
-# takes 1,600 instructions, and some 1,160 with vectors.
+# takes 1,600 instructions, and some 1,030 with vectors.
 few_instructions() {
     local few most each name="frames of 1115 octets take few instructions"
     if ! command -v valgrind >/dev/null; then
@@ -509,7 +509,7 @@ END
         few=$(instructions_for 100)
         most=$(instructions_for 2100)
         each=$(((${most:-0} - ${few:-0}) / 2000))
-        tell "$name: $each" "$([ -n "$few" ] && [ $each -gt 0 ] && [ $each -le 1200 ] || echo "more than 1200, or none")"
+        tell "$name: $each" "$([ -n "$few" ] && [ $each -gt 0 ] && [ $each -le 1100 ] || echo "more than 1100, or none")"
     fi
 }
 

@@ -487,7 +487,7 @@ wide_packet() {
 # The instructions that `frames` takes for so many frames of the recording `controlled`, by callgrind. It prints nothing where a line is missing.
 instructions_for() {
     head -c $(($1 * 1115)) controlled >front
-    valgrind --tool=callgrind --callgrind-out-file=counts "$tmx" frames --settings control front >out 2>err || return
+    valgrind --tool=callgrind --callgrind-out-file=counts "$tmx" frames --settings summed front >out 2>err || return
     [ "$(wc -l <out)" != "$1" ] || sed -n 's/^summary: //p' counts
 }
 
@@ -500,7 +500,7 @@ few_instructions() {
     elif ! built_by_rt; then
         skip 1 "$name" "the program isn't one that rt has built, so it is compiled otherwise"
     else
-        settings control 42 1115 true
+        settings summed 42 1115 true
         python3 - <<'END' || no "controlled isn't made"
 from binascii import crc_hqx
 before = (42 << 36 | 0x1FFE).to_bytes(6, "big") + bytes(1107)

@@ -80,18 +80,32 @@ impl<R: Files + AllocGlobal> EndedRun<'_, R> {
         }
     }
 
-    // Which file would be written over which. In `split` it may be a file of packets, of this name.
+    // The places of a file that would be written over another, and of that. In `split` it may be a file of packets, of this name, which has none.
+    fn find_clash(&self, name: &str) -> Result<(Option<Place>, Place), Untold> {
+        let (alloc, plan) = (self.rt.alloc(), &self.plan);
+        let Ok(identities) = identify_files(self.rt, plan) else {
+            return Err(Untold::NoMemory);
+        };
+        match find_clash(alloc, plan, &identities) {
+            Ok(Some(clash)) => Ok((Some(clash.written), clash.over)),
+            Ok(None) if plan.dir.is_some() => {
+                let same = identities.find(&identity_of(self.rt, name)?, &Place::ALL);
+                Ok((None, same.ok_or(Untold::Unknown)?))
+            }
+            Ok(None) => Err(Untold::Unknown),
+            Err(_) => Err(Untold::NoMemory),
+        }
+    }
+
+    // Which file would be written over which.
     fn clash_text(&self, name: &str) -> Said {
         let (alloc, plan) = (self.rt.alloc(), &self.plan);
-        let identities = identify_files(self.rt, plan).map_err(|_| Untold::NoMemory)?;
-        let clash = find_clash(alloc, plan, &identities).map_err(|_| Untold::NoMemory)?;
-        let same = identities.find(&identity_of(self.rt, name)?, &Place::ALL);
-        let (file, over) = match (clash, same) {
-            (Some(clash), _) => (phrase(alloc, plan, Some(clash.written))?, clash.over),
-            (None, Some(same)) if plan.dir.is_some() => (packets_phrase(alloc, name)?, same),
-            (None, _) => return Err(Untold::Unknown),
-        };
+        let (written, over) = self.find_clash(name)?;
         let over = phrase(alloc, plan, Some(over))?;
+        let file = match written {
+            Some(_) => phrase(alloc, plan, written)?,
+            None => packets_phrase(alloc, name)?,
+        };
         Ok(format!(in alloc; "{file} would be written over {over}; name another file")?)
     }
 

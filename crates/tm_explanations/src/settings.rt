@@ -7,7 +7,7 @@ use crate::explanation::EndedRun;
 use crate::phrases::{Said, Untold, phrase, text_of};
 use std::alloc::{AllocError, Global};
 use std::rt::Files;
-use tm_checkpoint::{find_other_setting, records_told};
+use tm_checkpoint::{OtherSetting, find_other_setting, records_told};
 use tm_faults::CheckpointFault;
 use tm_file_identity::Place;
 use tm_settings::{Key, Settings, SettingsFault, nearest_key, wanted_value};
@@ -81,12 +81,19 @@ impl<R: Files + AllocGlobal> EndedRun<'_, R> {
         }
     }
 
+    // Which setting differs from that of a checkpoint, which has these octets.
+    fn other_setting(&self, octets: &[u8]) -> Result<OtherSetting, Untold> {
+        let text = self.octets_at(Place::Settings)?;
+        match Settings::read(self.rt.alloc(), text.as_slice()) {
+            Ok(settings) => find_other_setting(&settings, octets).ok_or(Untold::Unknown),
+            Err(_) => Err(Untold::Unknown),
+        }
+    }
+
     // Which setting differs, and how.
     fn other_setting_text(&self, file: &str, octets: &[u8]) -> Said {
         let alloc = self.rt.alloc();
-        let text = self.octets_at(Place::Settings)?;
-        let settings = Settings::read(alloc, text.as_slice()).map_err(|_| Untold::Unknown)?;
-        let other = find_other_setting(&settings, octets).ok_or(Untold::Unknown)?;
+        let other = self.other_setting(octets)?;
         let there = value_text(alloc, other.key, other.there)?;
         let here = value_text(alloc, other.key, other.here)?;
         let settings = phrase(alloc, &self.plan, Some(Place::Settings))?;

@@ -102,25 +102,14 @@ pub fn event_line(event: &Event) -> Option<LineBuffer>
     if event.kind == PACKET {
         return packet_told(event);
     }
+    let (seen, channel) = (event.seen, event.channel);
+    let (expected, found, missing) = (event.expected, event.found, event.missing);
     let mut line = LineBuffer::new();
     match event.kind {
-        BAD => format_bad(&mut line, event.seen, nth_of(&FrameFault::ALL, event.why)?),
-        MASTER_GAP => format_master_gap(
-            &mut line,
-            event.seen,
-            event.expected,
-            event.found,
-            event.missing,
-        ),
-        GAP => format_gap(
-            &mut line,
-            event.seen,
-            event.channel,
-            event.expected,
-            event.found,
-            event.missing,
-        ),
-        VCA => format_vca(&mut line, event.seen, event.channel),
+        BAD => format_bad(&mut line, seen, nth_of(&FrameFault::ALL, event.why)?),
+        MASTER_GAP => format_master_gap(&mut line, seen, expected, found, missing),
+        GAP => format_gap(&mut line, seen, channel, expected, found, missing),
+        VCA => format_vca(&mut line, seen, channel),
         DROP => {
             let reason = nth_of(&Reason::ALL, event.why)?;
             let part = DroppedPart {
@@ -129,22 +118,16 @@ pub fn event_line(event: &Event) -> Option<LineBuffer>
                 octets: event.octets,
                 reason,
             };
-            format_drop(&mut line, event.seen, event.channel, part);
+            format_drop(&mut line, seen, channel, part);
         }
-        SHORT => format_short(&mut line, event.seen, event.octets as usize),
+        SHORT => format_short(&mut line, seen, event.octets as usize),
         SHORT_PACKET => {
             let found = 8 * u64::from(event.octets);
             format_short_packet_at(&mut line, place_of(event), event.at, found);
         }
         _ => {
             let note = note_told(event)?;
-            format_note(
-                &mut line,
-                event.seen,
-                event.channel,
-                event.application,
-                note,
-            );
+            format_note(&mut line, seen, channel, event.application, note);
         }
     }
     Some(line)

@@ -1,12 +1,12 @@
 -- The head and the rows of a definition.
-use Rattle.std.specs.Prelude.{◌≡◌, ◌≢◌, ◌<◌, ◌≤◌, ℕ, ◌+◌, ◌-◌, ◌/◌, ◌^◌, nat_lt, max, if◌then◌else◌, List, [], ◌∷◌, ◌++◌, Result, Ok, Err, codes}
+use Rattle.std.specs.Prelude.{◌≡◌, ◌≢◌, ◌<◌, ℕ, ◌+◌, ◌-◌, ◌/◌, ◌^◌, nat_lt, max, if◌then◌else◌, List, [], ◌∷◌, ◌++◌, Result, Ok, Err, codes}
 use Rattle.std.specs.Fmt.{decimal}
 use Rattle.std.specs.List.{flat_map}
 use Rattle.csv.specs.Writing.{default_writer, row_text}
 use Rattle.hex.specs.Hex.{encode_lower}
 use Rattle.tm_bits.specs.Bits.{part}
 use Rattle.tm_bits.specs.Escape.{escaped}
-use Rattle.tm_fields.specs.Binary.{row_length, row_octets}
+use Rattle.tm_fields.specs.Binary.{row_octets}
 use Rattle.tm_fields.specs.Numbers.{bits_in, octets_at}
 use Rattle.tm_fields.specs.Reading.{end_of, is_shown}
 use Rattle.tm_fields.specs.declared.lead.Lead.{Lead}
@@ -89,13 +89,7 @@ RefusesRow form fields lead packet refusal = refusal ≢ fault.NoMemory → row_
 abbrev pub RefusesShort : {A : Type 0} → List Field → List ℕ → Result A RowFault → Type 0
 RefusesShort fields packet result = bits_in packet < bits_needed fields → result ≡ Err (fault.ShortPacket (bits_needed fields) (bits_in packet))
 
--- rows of these fields in a form, the last of them, and the octets for which there is memory
+-- rows of these fields, and the last of them
 pub record RowsState : Type 0 where
   pub fields : List Field
-  pub form : RowForm
   pub row : List ℕ
-  pub capacity : ℕ
-
--- the memory for a row of the binary form was taken
-abbrev pub HasCapacity : RowsState → Type 0
-HasCapacity rows = (rows.form ≡ Binary) × (row_length rows.fields ≤ rows.capacity)

@@ -1,6 +1,6 @@
 //! A whole definition, and the head and rows that it gives.
 
-ghost use Rattle.std.specs.Prelude.{◌≡◌, ◌≢◌, ◌<◌, ◌≤◌, ◌+◌, ◌++◌, [], Ok, Err, true, length, List, IfOk, IfErr, IsOk, OnOk, map, vec_capacity, vec_len};
+ghost use Rattle.std.specs.Prelude.{◌≡◌, ◌≢◌, ◌<◌, ◌≤◌, ◌+◌, ◌++◌, [], Ok, Err, true, length, List, IfOk, IfErr, IsOk, OnErr, OnOk, map, vec_capacity, vec_len};
 ghost use Rattle.std.specs.List.{list_all};
 ghost use Rattle.csv.specs.Records.{fields_of};
 ghost use Rattle.tm_fields.specs.Numbers.{bits_in};
@@ -211,7 +211,7 @@ impl Definition {
     ) -> Result<(), AllocError>
         requires { bits_needed self.now ≤ bits_in packet.now }
         ensures items { OnOk result (row.new.items ≡ row.old.items ++ row_octets self.now lead packet.now) }
-        ensures room { OnOk result (row_length self.now ≤ vec_capacity row.new) }
+        ensures none { OnErr result (row.new.items ≡ row.old.items) }
         ensures kept { vec_capacity row.old ≤ vec_capacity row.new }
         ensures enough { vec_len row.old + row_length self.now ≤ vec_capacity row.old → IsOk result }
     {
@@ -236,6 +236,7 @@ impl Definition {
         packet: &[u8],
     ) -> Result<(), RowFault>
         ensures ok { OnOk result (IsRow Binary self.now lead packet.now row.new.items) }
+        ensures none { OnErr result (row.new.items ≡ []) }
         ensures refused { IfErr result (RefusesRow Binary self.now lead packet.now) }
         ensures short { RefusesShort self.now packet.now result }
         ensures kept { vec_capacity row.old ≤ vec_capacity row.new }

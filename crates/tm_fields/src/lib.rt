@@ -27,6 +27,6 @@ pub use faults::RowFault;
 pub use field::{DataType, Field};
 pub use lead::Lead;
 pub use numbers::number_at;
-pub use rows::{RowForm, Rows};
+pub use rows::{BinaryRows, RowForm, RowWriter, Rows};
 pub use tm_bits::Octets;
 pub use tm_faults::{Column, DefinitionFault, NoMemory};

@@ -1,15 +1,17 @@
 //! The rows of a definition, written one after another.
 
-ghost use Rattle.std.specs.Prelude.{◌≡◌, ◌≢◌, [], IfErr, OnErr, OnOk};
-ghost use Rattle.tm_fields.specs.Rows.{HasCapacity, IsRow, RefusesRow, RefusesShort, bits_needed};
+ghost use Rattle.std.specs.Prelude.{◌≡◌, [], ℕ, List, IfErr, OnErr, OnOk};
+ghost use Rattle.tm_fields.specs.Rows.{IsRow, RefusesRow, RefusesShort, bits_needed};
 ghost use Rattle.tm_fields.specs.declared.faults.RowFault.TheVariants.{NoMemory};
-ghost use Rattle.tm_fields.specs.declared.rows.RowForm.TheVariants.{Binary};
+ghost use Rattle.tm_fields.specs.declared.field.Field.{Field};
+ghost use Rattle.tm_fields.specs.declared.rows.RowForm.{RowForm};
+ghost use Rattle.tm_fields.specs.declared.rows.RowForm.TheVariants.{Text, Binary};
 
 use crate::cells::Cells;
 use crate::definition::Definition;
 use crate::faults::RowFault;
 use crate::lead::Lead;
-use std::alloc::Global;
+use std::alloc::{AllocError, Global};
 use std::marker::Model;
 
 /// How rows are written.
@@ -24,85 +26,154 @@ pub enum RowForm {
     Binary,
 }
 
-/// The rows of a definition, and the last of them. What they are made in is kept from row to row, so a row takes less time than by
+/// The rows of a definition in one form, and the last of them. It is kept where it was made, so a row takes less time than by
 /// `Definition::row`.
-#[derive(Drop)]
-pub struct Rows<'a> {
-    definition: &'a Definition,
-    form: RowForm,
-    cells: Cells,
-    // The last row.
-    row: Vec<u8>,
-}
+pub trait RowWriter {
+    /// Their form.
+    ghost form: { RowForm };
 
-impl<'a> Model for Rows<'a> {
-    ghost use Rattle.std.specs.Prelude.{vec_capacity};
-    ghost use Rattle.tm_fields.specs.Rows.{RowsState};
-
-    ghost Value = { RowsState };
-
-    ghost view = { λ r. record { fields = r.definition.now; form = r.form; row = r.row.items; capacity = vec_capacity r.row } };
-}
-
-impl<'a> Rows<'a> {
-    /// The rows of a definition, none of them written.
-    pub fn new(alloc: Global, definition: &'a Definition, form: RowForm) -> Rows<'a>
-        ensures fields { result.fields ≡ definition.now }
-        ensures form { result.form ≡ form }
-        ensures none { result.row ≡ [] }
-    {
-        Rows {
-            definition,
-            form,
-            cells: Cells::new(alloc),
-            row: Vec::new(alloc),
-        }
-    }
-
-    /// How many bits a packet must have: the greatest end of a field of any type, 0 without fields.
-    pub fn bits_needed(&self) -> u32
-        ensures { result ≡ bits_needed self.now.fields }
-    {
-        self.definition.bits_needed()
-    }
+    /// The fields of the definition.
+    ghost fields: { Self → List Field };
 
     /// The row that was written last, or nothing where that was refused.
-    pub fn row(&self) -> &[u8]
-        ensures { result.now ≡ self.now.row }
-    {
-        self.row.as_slice()
-    }
+    ghost last: { Self → List ℕ };
 
-    /// Writes the row of a packet. In the form of text it is the same that `Definition::row` gives. In the binary form memory is taken
-    /// for the first row alone.
+    /// How many bits a packet must have: the greatest end of a field of any type, 0 without fields.
+    fn bits_needed(&self) -> u32
+        ensures { result ≡ bits_needed (Self.fields self.now) };
+
+    /// The row that was written last, or nothing where that was refused.
+    fn row(&self) -> &[u8]
+        ensures { result.now ≡ Self.last self.now };
+
+    /// Writes the row of a packet. In the form of text it is the same that `Definition::row` gives.
     ///
     /// # Errors
     ///
     /// `ShortPacket` where the packet has fewer bits than are needed, whatever memory there is; else `NoMemory` where memory runs
-    /// out.
-    pub fn write(&mut self, lead: Lead, packet: &[u8]) -> Result<(), RowFault>
-        ensures fields { self.new.fields ≡ self.old.fields }
-        ensures form { self.new.form ≡ self.old.form }
-        ensures ok { OnOk result (IsRow self.old.form self.old.fields lead packet.now self.new.row) }
-        ensures none { OnErr result (self.new.row ≡ []) }
-        ensures refused { IfErr result (RefusesRow self.old.form self.old.fields lead packet.now) }
-        ensures short { RefusesShort self.old.fields packet.now result }
-        ensures capacity { OnOk result (self.old.form ≡ Binary → HasCapacity self.new) }
-        ensures enough { HasCapacity self.old → IfErr result (λ f. f ≢ NoMemory) }
+    /// out, which only rows of text take.
+    fn write(&mut self, lead: Lead, packet: &[u8]) -> Result<(), RowFault>
+        ensures fields { Self.fields self.new ≡ Self.fields self.old }
+        ensures ok { OnOk result (IsRow form (Self.fields self.old) lead packet.now (Self.last self.new)) }
+        ensures none { OnErr result (Self.last self.new ≡ []) }
+        ensures refused { IfErr result (RefusesRow form (Self.fields self.old) lead packet.now) }
+        ensures short { RefusesShort (Self.fields self.old) packet.now result }
+        ensures memory { IfErr result (λ fault. fault ≡ NoMemory → form ≡ Text) };
+}
+
+/// The rows of a definition as lines.
+#[derive(Drop)]
+pub struct Rows<'a> {
+    definition: &'a Definition,
+    cells: Cells,
+    row: Vec<u8>,
+}
+
+impl<'a> Model for Rows<'a> {
+    ghost use Rattle.tm_fields.specs.Rows.{RowsState};
+
+    ghost Value = { RowsState };
+
+    ghost view = { λ r. record { fields = r.definition.now; row = r.row.items } };
+}
+
+impl<'a> Rows<'a> {
+    /// The rows of a definition, none of them written.
+    pub fn new(alloc: Global, definition: &'a Definition) -> Rows<'a>
+        ensures { result ≡ record { fields = definition.now; row = [] } }
     {
+        Rows {
+            definition,
+            cells: Cells::new(alloc),
+            row: Vec::new(alloc),
+        }
+    }
+}
+
+impl RowWriter for Rows<'_> {
+    ghost form = { Text };
+
+    ghost fields = { λ r. r.fields };
+
+    ghost last = { λ r. r.row };
+
+    fn bits_needed(&self) -> u32 {
+        self.definition.bits_needed()
+    }
+
+    fn row(&self) -> &[u8] {
+        self.row.as_slice()
+    }
+
+    fn write(&mut self, lead: Lead, packet: &[u8]) -> Result<(), RowFault> {
         self.row.clear();
         self.definition.check_length(packet)?;
-        let pushed = match self.form {
-            RowForm::Text => self
-                .definition
-                .push_row(&mut self.row, &mut self.cells, lead, packet),
-            RowForm::Binary => self.definition.push_binary_row(&mut self.row, lead, packet),
-        };
+        let pushed = self
+            .definition
+            .push_row(&mut self.row, &mut self.cells, lead, packet);
         if pushed.is_err() {
             // The beginning of a row is dropped.
             self.row.clear();
             return Err(RowFault::NoMemory);
         }
         Ok(())
+    }
+}
+
+/// The rows of a definition in octets.
+#[derive(Drop)]
+pub struct BinaryRows<'a> {
+    definition: &'a Definition,
+    // The last row, with memory for one.
+    row: Vec<u8>,
+}
+
+impl<'a> Model for BinaryRows<'a> {
+    ghost use Rattle.std.specs.Prelude.{◌≤◌, vec_capacity};
+    ghost use Rattle.tm_fields.specs.Binary.{row_length};
+    ghost use Rattle.tm_fields.specs.Rows.{RowsState};
+
+    ghost Value = { RowsState };
+
+    ghost view = { λ r. record { fields = r.definition.now; row = r.row.items } };
+
+    ghost invariant = { λ r. row_length r.definition.now ≤ vec_capacity r.row };
+}
+
+impl<'a> BinaryRows<'a> {
+    ghost use Rattle.std.specs.Prelude.{IfOk};
+
+    /// The rows of a definition, none of them written. Memory for one is taken here.
+    ///
+    /// # Errors
+    ///
+    /// `AllocError` where that can't be had.
+    pub fn new(alloc: Global, definition: &'a Definition) -> Result<BinaryRows<'a>, AllocError>
+        ensures { IfOk result (λ rows. rows ≡ record { fields = definition.now; row = [] }) }
+    {
+        let mut row = Vec::new(alloc);
+        row.reserve(definition.row_length() as usize)?;
+        Ok(BinaryRows { definition, row })
+    }
+}
+
+impl RowWriter for BinaryRows<'_> {
+    ghost form = { Binary };
+
+    ghost fields = { λ r. r.fields };
+
+    ghost last = { λ r. r.row };
+
+    fn bits_needed(&self) -> u32 {
+        self.definition.bits_needed()
+    }
+
+    fn row(&self) -> &[u8] {
+        self.row.as_slice()
+    }
+
+    fn write(&mut self, lead: Lead, packet: &[u8]) -> Result<(), RowFault> {
+        self.definition
+            .write_binary_row(&mut self.row, lead, packet)
     }
 }

@@ -52,9 +52,8 @@ too_short fields application (Packet seen channel first place octets) =
     if (packet_header_of octets).application == application then short_in seen channel first place (row_from Text fields (lead_of seen channel octets) octets) else []
 too_short fields application _ = []
 
--- what stays the same of an outlet of rows: what does of its drain, the form, the fields, and the application
+-- what stays the same of an outlet of rows: what does of its drain, the fields, and the application
 pub record RowsBy : Type 0 where
   pub out : FixedDrain
-  pub form : RowForm
   pub fields : List Field
   pub application : ℕ

@@ -64,17 +64,23 @@ CausedByOutput old new ShortRecording = ⊥
 CausedByOutput old new TooMany = ⊥
 CausedByOutput old new NoMemory = SameCounts old new
 
--- How an outlet is written: what belongs there is made in memory; and it may wait there for a flush.
+-- How an outlet is written: memory is taken for what belongs there; it may wait there for a flush; memory is reserved once, before all else.
 pub record Buffering : Type 0 where
   pub memory : Bool
   pub flush : Bool
+  pub reserved : Bool
 
--- octets go as they are, and a packet's line is made in a room of its own; rows and other lines are made in memory; all may wait
+-- octets go as they are, and a packet's line is made in a room of its own
 abbrev pub octets_buffering : Buffering
-octets_buffering = record { memory = false; flush = true }
+octets_buffering = record { memory = false; flush = true; reserved = false }
 
+-- other lines, and rows of text, are made in memory
 abbrev pub lines_buffering : Buffering
-lines_buffering = record { memory = true; flush = true }
+lines_buffering = record { memory = true; flush = true; reserved = false }
+
+-- a row in octets is made in memory that was reserved
+abbrev pub reserved_buffering : Buffering
+reserved_buffering = record { memory = false; flush = true; reserved = true }
 
 -- something of this piece is made in memory: its text for the report, or what belongs to `out`, where that is made there
 abbrev pub TakesMemory : {A : Type 0} → Buffering → Piece A → Type 0

@@ -12,8 +12,8 @@ ghost use Rattle.tm_output.specs.FieldRows.{is_of_other, tabled};
 ghost use Rattle.tm_output.specs.Packets.{HasHeader, item_with};
 ghost use Rattle.tm_output.specs.code.Outlets.{GivesNone, PutStopped, appends_split, binary_none, listed_none, octets_none, packet_none};
 ghost use Rattle.tm_output.specs.code.Quiet.{AreJoined, outs_of};
-ghost use Rattle.tm_output.specs.Outputs.{FixedDrain, PutsPart, Buffering, lines_buffering, octets_buffering};
-ghost use Rattle.tm_output.specs.Pieces.{HasLine, Texts, binary_packet, listed, no_remark, packet_lead, packet_octets};
+ghost use Rattle.tm_output.specs.Outputs.{FixedDrain, PutsPart, Buffering, octets_buffering};
+ghost use Rattle.tm_output.specs.Pieces.{HasLine, Texts, binary_packet, listed, no_remark, packet_lead, packet_octets, rows_buffering};
 ghost use Rattle.tm_output.specs.Totals.{is_some_text};
 ghost use Rattle.tm_output.specs.code.ShelfLaws.{no_shelf, shelves_nil, shelves_split, shelves_trans};
 ghost use Rattle.tm_output.specs.Shelves.{Shelved, Shelves, shelf_text, shelf_buffering};
@@ -23,7 +23,7 @@ use crate::front::{first_packet, span_from};
 use std::alloc::AllocError;
 use tm_devices::{DeviceFailed, Drain, Shelf, write_all};
 use tm_faults::RunFault;
-use tm_fields::{Lead, RowFault, Rows};
+use tm_fields::{Lead, RowFault, RowWriter};
 use tm_items::Span;
 use tm_lines::{LineBuffer, format_packet, format_short_packet};
 use tm_packet::Header;
@@ -532,8 +532,8 @@ impl<H: Shelf> Outlet for PacketShelf<'_, H> {
 
 /// A row for each packet of an application into a drain.
 #[derive(Drop)]
-pub struct PacketRows<'r, 'd, 'o, W> {
-    pub rows: &'r mut Rows<'d>,
+pub struct PacketRows<'r, 'o, R, W> {
+    pub rows: &'r mut R,
     pub application: u16,
     pub out: &'o mut W,
 }
@@ -556,8 +556,8 @@ pub(crate) fn copy_of<'p>(packet: &Packet<'p>) -> Packet<'p>
 // Writes the row of a packet of the application. It stands apart, since most packets are of others.
 #[inline(never)]
 #[tactic(auto, unfolding(crate::specs::FieldRows::tabled))]
-fn write_row<W: Drain>(
-    rows: &mut Rows<'_>,
+fn write_row<R: RowWriter, W: Drain>(
+    rows: &mut R,
     application: u16,
     out: &mut W,
     packet: &Packet<'_>,
@@ -565,14 +565,13 @@ fn write_row<W: Drain>(
     requires header { HasHeader packet.now }
     requires application { packet.now.header.application ≡ application }
     ensures same { W.fixed out.new ≡ W.fixed out.old }
-    ensures fields { rows.new.fields ≡ rows.old.fields }
-    ensures form { rows.new.form ≡ rows.old.form }
+    ensures fields { R.fields rows.new ≡ R.fields rows.old }
     ensures whole { OnOk result (Appends (W.written out.old) (W.written out.new)
-        (tabled rows.old.form rows.old.fields application (item_with packet.now))
+        (tabled R.form (R.fields rows.old) application (item_with packet.now))
         × (W.failures out.new ≡ W.failures out.old)) }
-    ensures stopped { IfErr result (PutStopped Appends lines_buffering (W.written out.old) (W.written out.new)
+    ensures stopped { IfErr result (PutStopped Appends (rows_buffering R.form) (W.written out.old) (W.written out.new)
         (W.failures out.old) (W.failures out.new)
-        (tabled rows.old.form rows.old.fields application (item_with packet.now))) }
+        (tabled R.form (R.fields rows.old) application (item_with packet.now))) }
 {
     let lead = Lead {
         seen: packet.seen,
@@ -590,7 +589,7 @@ fn write_row<W: Drain>(
     }
 }
 
-impl<W> PacketRows<'_, '_, '_, W> {
+impl<R, W> PacketRows<'_, '_, R, W> {
     // The packet of this header is of the application.
     fn is_of_application(&self, header: &Header) -> bool
         ensures { result ≡ (header.now.application == self.now.application) }
@@ -599,7 +598,7 @@ impl<W> PacketRows<'_, '_, '_, W> {
     }
 }
 
-impl<W: Drain> Outlet for PacketRows<'_, '_, '_, W> {
+impl<R: RowWriter, W: Drain> Outlet for PacketRows<'_, '_, R, W> {
     ghost use Rattle.tm_output.specs.FieldRows.{RowsBy};
     ghost use Rattle.tm_output.specs.code.Outlets.{no_row};
     ghost use Rattle.tm_output.specs.Pieces.{rows_text};
@@ -612,8 +611,7 @@ impl<W: Drain> Outlet for PacketRows<'_, '_, '_, W> {
 
     ghost fixed = { λ o. record {
       out = record { name = o.out.ghost_name; number = W.fixed o.out.now };
-      form = o.rows.now.form;
-      fields = o.rows.now.fields;
+      fields = R.fields o.rows.now;
       application = o.application;
     } };
 
@@ -623,13 +621,13 @@ impl<W: Drain> Outlet for PacketRows<'_, '_, '_, W> {
 
     ghost grows = { Appends };
 
-    ghost text = { λ f. rows_text f.form f.fields f.application };
+    ghost text = { λ f. rows_text R.form f.fields f.application };
 
-    ghost buffering = { lines_buffering };
+    ghost buffering = { rows_buffering R.form };
 
     ghost passed = { λ o. Keeps (W.flushed o.out.now) (W.written o.out.now) };
 
-    ghost text_none = { λ f. no_row f.form f.fields f.application };
+    ghost text_none = { λ f. no_row R.form f.fields f.application };
 
     ghost grows_nil = { Appends-nil };
 

@@ -85,9 +85,6 @@ run_ends p fault (inl h) = inl h
 run_ends p fault (inr h) = inr (inr (inr h))
 
 -- the fault of a folder is one of what splitting writes
-pub folder_there : (o : Option (List ℕ)) (dir : List ℕ) (fault : ToolFault) → o ≡ Some dir → IsFileFault dir fault → HasFolderFault o fault
-folder_there o dir fault is h = subst (λ (found : Option (List ℕ)). HasFolderFault found fault) (sym is) (inl h)
-
 pub split_there : (o : Option (List ℕ)) (dir : List ℕ) (fault : ToolFault) → o ≡ Some dir → IsRunFault fault ⊎ IsFolderFault dir fault → IsRunFault fault ⊎ HasFolderFault o fault
 split_there o dir fault is (inl h) = inl h
 split_there o dir fault is (inr h) = inr (subst (λ (found : Option (List ℕ)). HasFolderFault found fault) (sym is) h)

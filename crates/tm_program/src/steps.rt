@@ -9,9 +9,9 @@ ghost use Rattle.tm_files.specs.Names.{AreClear};
 ghost use Rattle.tm_output.specs.Pieces.{text_of};
 ghost use Rattle.tm_program.specs.code.Blames.{IsBlamed, IsBlamedBeside};
 ghost use Rattle.tm_program.specs.code.Endings.{HasCheckpoint, HasDone, HasShown, IsDone, IsListFound, IsTaskDone};
-ghost use Rattle.tm_program.specs.code.Faults.{HasFolderFault, IsOfOutputs};
-ghost use Rattle.tm_program.specs.code.Tasks.{IsJob, IsTask};
-ghost use Rattle.tm_program.specs.Found.{Finds, HasFound};
+ghost use Rattle.tm_program.specs.code.Faults.{HasFolderFault, IsFolderFault, IsOfOutputs};
+ghost use Rattle.tm_program.specs.code.Tasks.{IsJob, IsTask, folder_texts};
+ghost use Rattle.tm_program.specs.Found.{Finds, HasFound, ending_of};
 ghost use Rattle.tm_program.specs.Program.{IsAsked, MayCome, MayEnd};
 
 use crate::checkpoint_file::{begin_checkpoint, choose_ending, end_checkpoint, make_job};
@@ -29,7 +29,8 @@ use tm_files::{
     make_drain, open_recording, open_report, source_of_input, writes_errors,
 };
 use tm_tool::{
-    BufferedSource, Command, Done, Drain, Ending, Job, Settings, Writing, list_recording, sum_up,
+    BufferedSource, Command, Done, Drain, Ending, Job, Octets, Settings, Writing, list_recording,
+    sum_up,
 };
 
 // The plan of the arguments.
@@ -113,8 +114,27 @@ fn give_packets<R: Print + AllocGlobal, S: BufferedSource, V: Drain>(
     }
 }
 
-// Does the job to where the packets go. Names are looked up anew, now that the report is made: before, it may have been none.
-#[tactic(auto, using(tm_files::proofs::FaultLemmas::no_memory_run, crate::proofs::ProgramLemmas::folder_there, crate::proofs::ProgramLemmas::split_there))]
+// Goes on with a job up to the plan's ending, and gives its packets to the files of a folder. Names are looked up anew, now that the report
+// is made: before, it may have been none.
+#[tactic(auto, using(tm_files::proofs::FaultLemmas::no_memory_run))]
+fn fill_folder<R: Files + AllocGlobal, S: BufferedSource, V: Drain>(
+    rt: &R,
+    plan: &Plan,
+    dir: &Octets,
+    job: Job,
+    source: &mut S,
+    report: &mut V,
+) -> Result<Done, ToolFault>
+    ensures done { IfOk result (IsDone folder_texts (ending_of plan.now) job.work) }
+    ensures refused { IfErr result (λ fault. IsRunFault fault ⊎ IsFolderFault dir.now fault) }
+{
+    let identities = identify_files(rt, plan)?;
+    let mut shelf = make_shelf(rt, plan, dir, &identities)?;
+    split_packets(rt, job, choose_ending(plan), &mut shelf, source, report)
+}
+
+// Does the job to where the packets go.
+#[tactic(auto, using(tm_files::proofs::FaultLemmas::no_memory_run, crate::proofs::ProgramLemmas::split_there))]
 fn run_to_destination<R: Files + Print + AllocGlobal, S: BufferedSource, V: Drain>(
     rt: &R,
     plan: &Plan,
@@ -127,22 +147,16 @@ fn run_to_destination<R: Files + Print + AllocGlobal, S: BufferedSource, V: Drai
     ensures done { IfOk result (HasDone plan.now settings.now job.entry) }
     ensures refused { IfErr result (λ fault. IsRunFault fault ⊎ HasFolderFault plan.now.dir fault) }
 {
-    let identities = identify_files(rt, plan)?;
-    let ending = choose_ending(plan);
     let JobInputs {
         destination,
         resumed,
     } = job;
+    let job = make_job(rt, resumed, settings)?;
     match &destination {
         Destination::Output(form) => {
-            let job = make_job(rt, resumed, settings)?;
-            give_packets(rt, job, form.command(), ending, source, report)
+            give_packets(rt, job, form.command(), choose_ending(plan), source, report)
         }
-        Destination::Folder(dir) => {
-            let mut shelf = make_shelf(rt, plan, dir, &identities)?;
-            let job = make_job(rt, resumed, settings)?;
-            split_packets(rt, job, ending, &mut shelf, source, report)
-        }
+        Destination::Folder(dir) => fill_folder(rt, plan, dir, job, source, report),
     }
 }
 
@@ -154,7 +168,7 @@ fn records_before(resumed: &Option<Job>) -> u32 {
     }
 }
 
-// The report of the plan, once its names were checked.
+// The report of the plan, once its names and its folder were checked.
 #[tactic(auto, using(tm_files::proofs::FaultLemmas::no_memory_run))]
 fn make_report<R: Files + AllocGlobal, E: Write + Drop>(
     rt: &R,
@@ -164,6 +178,7 @@ fn make_report<R: Files + AllocGlobal, E: Write + Drop>(
 ) -> Result<Writing<BufWriter<Report<R::File, E>>>, ToolFault>
     ensures { IfErr result (IsOfOutputs plan.now) }
 {
+    check_folder(rt, plan)?;
     let report = open_report(rt, plan, checked, errors)?;
     make_drain(rt.alloc(), report)
 }
@@ -224,7 +239,6 @@ fn run_on_recording<'p, R: Files + Print + AllocGlobal, S: BufferedSource, E: Wr
             found: list(rt, overview, settings, source)?,
         }),
         Task::Job(job) => {
-            check_folder(rt, plan)?;
             let mut report = make_report(rt, plan, checked, errors)?;
             run_job(rt, plan, settings, job, source, &mut report)
         }

@@ -3,7 +3,7 @@
 use crate::field_rows::AND_ONE_BIT;
 use std::alloc::{AllocError, Global};
 use tm_bits::push_escaped;
-use tm_fields::{Column, Definition, DefinitionFault, Lead, RowFault, RowForm, Rows, number_at};
+use tm_fields::{Column, Definition, DefinitionFault, Lead, RowFault, RowWriter, Rows, number_at};
 
 pub(crate) const TEXT: &str =
     "name, data_type, bit_length\nVERSION, uint, 8\nLEVEL, int, 12\nPAD, fill, 4\nLABEL, str, 24\nRATE, float, 32\n";
@@ -87,7 +87,7 @@ fn rows_one_behind_another(rt: HostRuntime) {
     // guards: head-row-and-rows-give-the-head-and-the-rows
     let alloc = rt.alloc();
     let definition = Definition::read(alloc, TEXT.as_bytes()).expect(&rt, "a definition");
-    let mut rows = Rows::new(alloc, &definition, RowForm::Text);
+    let mut rows = Rows::new(alloc, &definition);
     assert!(rt; rows.bits_needed() == 128 && rows.row().is_empty());
     for _ in 0..2000u32 {
         assert!(rt; writes_row(&mut rows));

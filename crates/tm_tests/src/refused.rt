@@ -7,7 +7,7 @@ use crate::runs::settings_of;
 use std::alloc::Global;
 use std::process::Abort;
 use std::rt::Files;
-use tm_fields::{Definition, DefinitionFault, RowFault, RowForm, Rows};
+use tm_fields::{Definition, DefinitionFault, RowFault, RowWriter, Rows};
 use tm_frame::Layout;
 use tm_memory::{Answer, NOTHING_HELD, Turns, try_twice};
 use tm_packet::{Tracker, TrackerFault};
@@ -233,7 +233,7 @@ fn row_made(alloc: Global, definition: &Definition) -> Answer {
 }
 
 fn row_written(alloc: Global, definition: &Definition) -> Answer {
-    let mut rows = Rows::new(alloc, definition, RowForm::Text);
+    let mut rows = Rows::new(alloc, definition);
     match rows.write(LEAD, &PACKET) {
         Ok(()) => Answer::right_if(rows.row() == ROW.as_bytes()),
         Err(fault) => Answer::refused_if(fault == RowFault::NoMemory && rows.row().is_empty()),

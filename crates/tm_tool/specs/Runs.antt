@@ -1,5 +1,5 @@
 -- What was read and written when a run ended. If a source doesn't tell its octets, nothing is said of what was read.
-use Rattle.std.specs.Prelude.{false, ◌≡◌, ◌≢◌, ◌⊎◌, ◌<◌, ◌+◌, ℕ, List, [], ◌∷◌, ◌++◌, length, option_map, Option, None, Some, Result, IfErr, IfOk, IfSome, OnOk}
+use Rattle.std.specs.Prelude.{false, true, ◌≡◌, ◌≢◌, ◌⊎◌, ◌<◌, ◌+◌, ℕ, List, [], ◌∷◌, ◌++◌, length, option_map, Option, None, Some, Result, IfErr, IfOk, IfSome, OnOk}
 use Rattle.std.specs.Io.KnownBytes.{Appends, Consumes, Keeps}
 use Rattle.tm_frame.specs.Layout.{most_records, record_length_of}
 use Rattle.tm_reassembly.specs.Valid.{IsValidState}
@@ -122,10 +122,18 @@ module _ {A K : Type 0} (grows : K → K → List A → Type 0) (buffering : Buf
     pub headed : Took grows old mid head
     pub stopped : IsStoppedAt grows buffering (course text ending w) left_old left_new mid new fault
 
+  -- or memory was to be reserved behind it, and there was none: nothing was read
+  pub record StopsUnreserved (head : List (Piece A)) (left_old left_new : Option (List ℕ)) (old new : View K) (fault : RunFault) : Type 0 where
+    pub memory : fault ≡ NoMemory
+    pub reserved : buffering.reserved ≡ true
+    pub unread : left_new ≡ left_old
+    pub headed : Took grows old new head
+
   -- where a fault leaves the devices of a run with a head
   abbrev pub IsHeadedStop : List (Piece A) → Devices K → Devices K → RunFault → Type 0
   IsHeadedStop head old new fault =
-      StopsAtHead head old.left new.left old.outputs new.outputs fault ⊎ StopsBehindHead head old.left new.left old.outputs new.outputs fault
+      StopsAtHead head old.left new.left old.outputs new.outputs fault ⊎ (StopsBehindHead head old.left new.left old.outputs new.outputs fault
+      ⊎ StopsUnreserved head old.left new.left old.outputs new.outputs fault)
 
   -- and without one
   abbrev pub IsStop : Devices K → Devices K → RunFault → Type 0
@@ -134,8 +142,9 @@ module _ {A K : Type 0} (grows : K → K → List A → Type 0) (buffering : Buf
   -- What a fault says of a recording that tells its octets: there is one place up to which its pieces were written; and each fault has its reason.
   pub record StoppedIn (head : List (Piece A)) (old new : View K) (fault : RunFault) (octets : List ℕ) : Type 0 where
     pub cut : AppendsCut grows old new (head ++ pieces text ending w octets)
-    -- something was to be made in memory, and nothing was written of that piece
-    pub memory : fault ≡ NoMemory → WantsMemory grows buffering old new (head ++ pieces text ending w octets)
+    -- something was to be made in memory, and nothing was written of that piece; or memory was to be reserved, and the head alone was written
+    pub memory : fault ≡ NoMemory
+        → WantsMemory grows buffering old new (head ++ pieces text ending w octets) ⊎ ((buffering.reserved ≡ true) × Took grows old new head)
     -- some octets of that packet aren't there, and nothing of it is reported
     pub refused : fault ≡ Write → buffering.flush ≡ false → RefusesPut grows old new (head ++ pieces text ending w octets)
     -- it has more records than can be counted

@@ -8,14 +8,14 @@ ghost use Rattle.tm_tool.specs.code.Extractors.{IsReady, work_in};
 ghost use Rattle.tm_tool.specs.code.Heads.{HeadStopped, head_text};
 ghost use Rattle.tm_output.specs.Pieces.{buffering_of, text_of};
 ghost use Rattle.tm_tool.specs.Runs.{devices};
-ghost use Rattle.tm_tool.specs.code.Stepping.{RunHasEnded};
+ghost use Rattle.tm_tool.specs.code.Stepping.{RunReserved};
 
 use crate::extractor::Extractor;
 use crate::recording::run_into;
 use crate::{BufferedSource, Command, Drain, Ending, RunFault};
 use std::alloc::Global;
 use tm_devices::write_all;
-use tm_fields::{RowForm, Rows};
+use tm_fields::{BinaryRows, Rows};
 use tm_lines::LineBuffer;
 use tm_output::{BinaryPackets, PacketLines, PacketOctets, PacketRows, PacketTexts, Totals};
 
@@ -70,7 +70,7 @@ pub(crate) fn run_command<R: BufferedSource, W: Drain, V: Drain>(
     ensures same_out { W.fixed out.new ≡ W.fixed out.old }
     ensures same_report { V.fixed report.new ≡ V.fixed report.old }
     ensures ready { OnOk result (IsReady extractor.new) }
-    ensures runs { RunHasEnded (text_of command.entry) ending (work_in extractor.old) (work_in extractor.new)
+    ensures runs { RunReserved (text_of command.entry) ending (work_in extractor.old) (work_in extractor.new)
         Appends (buffering_of command.entry) (devices R.BufferedSource W.Drain V.Drain recording.old out.old report.old)
         (devices R.BufferedSource W.Drain V.Drain recording.new out.new report.new) result }
     ensures flushed_out { OnOk result (Keeps (W.flushed out.new) (W.written out.new)) }
@@ -100,7 +100,7 @@ pub(crate) fn run_command<R: BufferedSource, W: Drain, V: Drain>(
             run_into(extractor, recording, &mut outlet, report, ending)
         }
         Command::Fields(definition, application) => {
-            let mut rows = Rows::new(extractor.alloc, definition, RowForm::Text);
+            let mut rows = Rows::new(extractor.alloc, definition);
             let mut outlet = PacketRows {
                 rows: &mut rows,
                 application,
@@ -109,7 +109,9 @@ pub(crate) fn run_command<R: BufferedSource, W: Drain, V: Drain>(
             run_into(extractor, recording, &mut outlet, report, ending)
         }
         Command::BinaryFields(definition, application) => {
-            let mut rows = Rows::new(extractor.alloc, definition, RowForm::Binary);
+            let Ok(mut rows) = BinaryRows::new(extractor.alloc, definition) else {
+                return Err(RunFault::NoMemory);
+            };
             let mut outlet = PacketRows {
                 rows: &mut rows,
                 application,

@@ -106,13 +106,17 @@ def pieces(reader, application):
     }
 
 
-def goes_on_in_octets(words, stop, wanted, folder):
-    """Whether a job that stops and goes on in the other form gives the lines up to the stop, and the octets of the others."""
-    lines, octets, report = wanted
-    status, text, before = run([*words, "--checkpoint", "chk", "--stop-after", str(stop)], folder)
-    done = text.count(b"\n")
+def goes_on_in_the_other_form(words, stop, wanted, folder):
+    """Whether jobs that stop and go on in the other form give the lines up to the stop and the octets of the others, or first the octets."""
+    lines, octets, report = *wanted[:2], text_of(wanted[2])
+    stopping = ["--checkpoint", "chk", "--stop-after", str(stop)]
+    status, text, before = run([*words, *stopping], folder)
     end, rest, after = run([*words, "--binary", "--resume", "chk"], folder)
-    return (status, end, text, rest, before + after) == (0, 0, text_of(lines[:done]), b"".join(octets[done:]), text_of(report))
+    done = text.count(b"\n")
+    right = (status, end, text, rest, before + after) == (0, 0, text_of(lines[:done]), b"".join(octets[done:]), report)
+    status, first, before = run([*words, "--binary", *stopping], folder)
+    end, rest, after = run([*words, "--resume", "chk"], folder)
+    return right and (status, end, first, rest, before + after) == (0, 0, b"".join(octets[:done]), text_of(lines[done:]), report)
 
 
 def compare_whole(tmx, settings, reader, octets, folder):
@@ -140,9 +144,9 @@ def compare(tmx, definition, seed, folder):
         words = [tmx, *command.split(), "--settings", "settings"]
         if command.startswith("fields"):
             words += ["--definition", definition, "--apid", str(application)]
-        if command in changing and not goes_on_in_octets(words, chance.randrange(1, 400), changing[command], folder):
-            wrong.append(f"{command}, then in octets")
-        number += 3 if command in changing else 2
+        if command in changing and not goes_on_in_the_other_form(words, chance.randrange(1, 400), changing[command], folder):
+            wrong.append(f"{command}, then in the other form")
+        number += 4 if command in changing else 2
         if run(words, folder) != (0, *both) or run_in_steps(words, kept, folder) != (0, *in_steps[command]):
             wrong.append(command)
     return number, [f"seed {seed}: {command}" for command in wrong]

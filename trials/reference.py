@@ -34,6 +34,8 @@ FIELDS = (
     ("TEXT", "str", 16, 54),
     ("WIDE", "uint", 64, 1),
     ("WIDE_SIGNED", "int", 64, 5),
+    ("LONG", "uint", 33, 20),
+    ("MIDDLE", "int", 20, 30),
 )
 NEEDED = 70  # bits
 

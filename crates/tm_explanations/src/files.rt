@@ -80,8 +80,8 @@ impl<R: Files + AllocGlobal> EndedRun<'_, R> {
         }
     }
 
-    // The places of a file that would be written over another, and of that. In `split` it may be a file of packets, of this name, which has none.
-    fn find_clash(&self, name: &str) -> Result<(Option<Place>, Place), Untold> {
+    // By places, which file would be written over which. In `split` the first may be a file of packets, of this name: it has no place.
+    fn clashing_places(&self, name: &str) -> Result<(Option<Place>, Place), Untold> {
         let (alloc, plan) = (self.rt.alloc(), &self.plan);
         let Ok(identities) = identify_files(self.rt, plan) else {
             return Err(Untold::NoMemory);
@@ -100,7 +100,7 @@ impl<R: Files + AllocGlobal> EndedRun<'_, R> {
     // Which file would be written over which.
     fn clash_text(&self, name: &str) -> Said {
         let (alloc, plan) = (self.rt.alloc(), &self.plan);
-        let (written, over) = self.find_clash(name)?;
+        let (written, over) = self.clashing_places(name)?;
         let over = phrase(alloc, plan, Some(over))?;
         let file = match written {
             Some(_) => phrase(alloc, plan, written)?,

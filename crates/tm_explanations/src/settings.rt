@@ -81,7 +81,7 @@ impl<R: Files + AllocGlobal> EndedRun<'_, R> {
         }
     }
 
-    // Which setting differs from that of a checkpoint, which has these octets.
+    // The setting that isn't as in a checkpoint of these octets.
     fn other_setting(&self, octets: &[u8]) -> Result<OtherSetting, Untold> {
         let text = self.octets_at(Place::Settings)?;
         match Settings::read(self.rt.alloc(), text.as_slice()) {

@@ -26,8 +26,8 @@ pub enum RowForm {
     Binary,
 }
 
-/// The rows of a definition in one form, and the last of them. It is kept where it was made, so a row takes less time than by
-/// `Definition::row`.
+/// The rows of a definition in one form, and the last of them. Each is made in the memory of the one before, which takes less time
+/// than `Definition::row`.
 pub trait RowWriter {
     /// Their form.
     ghost form: { RowForm };
@@ -50,8 +50,8 @@ pub trait RowWriter {
     ///
     /// # Errors
     ///
-    /// `ShortPacket` where the packet has fewer bits than are needed, whatever memory there is; else `NoMemory` where memory runs
-    /// out, which only rows of text take.
+    /// `ShortPacket` where the packet has fewer bits than are needed, whatever memory there is. Else `NoMemory` where memory runs
+    /// out, and only for rows of text.
     fn write(&mut self, lead: Lead, packet: &[u8]) -> Result<(), RowFault>
         ensures fields { Self.fields self.new ≡ Self.fields self.old }
         ensures ok { OnOk result (IsRow form (Self.fields self.old) lead packet.now (Self.last self.new)) }
@@ -143,11 +143,11 @@ impl<'a> Model for BinaryRows<'a> {
 impl<'a> BinaryRows<'a> {
     ghost use Rattle.std.specs.Prelude.{IfOk};
 
-    /// The rows of a definition, none of them written. Memory for one is taken here.
+    /// The rows of a definition, none of them written. The memory of one is reserved here.
     ///
     /// # Errors
     ///
-    /// `AllocError` where that can't be had.
+    /// `AllocError` where there is none.
     pub fn new(alloc: Global, definition: &'a Definition) -> Result<BinaryRows<'a>, AllocError>
         ensures { IfOk result (λ rows. rows ≡ record { fields = definition.now; row = [] }) }
     {

@@ -64,7 +64,8 @@ CausedByOutput old new ShortRecording = ⊥
 CausedByOutput old new TooMany = ⊥
 CausedByOutput old new NoMemory = SameCounts old new
 
--- How an outlet is written: memory is taken for what belongs there; it may wait there for a flush; memory is reserved once, before all else.
+-- How an outlet is written: memory is taken for what belongs there; it may wait there for a flush; memory for it is reserved once, before
+-- the recording is read.
 pub record Buffering : Type 0 where
   pub memory : Bool
   pub flush : Bool
@@ -74,7 +75,7 @@ pub record Buffering : Type 0 where
 abbrev pub octets_buffering : Buffering
 octets_buffering = record { memory = false; flush = true; reserved = false }
 
--- other lines, and rows of text, are made in memory
+-- the head of rows, and a row of text, are made in memory
 abbrev pub lines_buffering : Buffering
 lines_buffering = record { memory = true; flush = true; reserved = false }
 
@@ -82,7 +83,7 @@ lines_buffering = record { memory = true; flush = true; reserved = false }
 abbrev pub reserved_buffering : Buffering
 reserved_buffering = record { memory = false; flush = true; reserved = true }
 
--- something of this piece is made in memory: its text for the report, or what belongs to `out`, where that is made there
+-- memory is taken for something of this piece: its text for the report, or what belongs to `out`, where that takes memory
 abbrev pub TakesMemory : {A : Type 0} → Buffering → Piece A → Type 0
 TakesMemory buffering piece = ((buffering.memory ≡ true) × (piece.out ≢ [])) ⊎ (piece.report ≢ [])
 

@@ -88,16 +88,20 @@ binary_packet _ = []
 abbrev pub no_remark : Item → List ℕ
 no_remark _ = []
 
+-- a text of each packet, and nothing more for the report
+abbrev pub packet_texts : (Item → List ℕ) → Texts ℕ
+packet_texts text = record { out = text; remark = no_remark; given = is_packet_item }
+
 -- the row of a packet in a form, and the line for one that is too short
 abbrev pub rows_text : RowForm → List Field → ℕ → Texts ℕ
 rows_text form fields application = record { out = tabled form fields application; remark = too_short fields application; given = has_row fields application }
 
 -- what a command gives of an item
 abbrev pub text_of : Command → Texts ℕ
-text_of Extract = record { out = packet_octets; remark = no_remark; given = is_packet_item }
-text_of Packets = record { out = listed; remark = no_remark; given = is_packet_item }
+text_of Extract = packet_texts packet_octets
+text_of Packets = packet_texts listed
 text_of (Fields definition application) = rows_text Text definition.now application
-text_of BinaryPackets = record { out = binary_packet; remark = no_remark; given = is_packet_item }
+text_of BinaryPackets = packet_texts binary_packet
 text_of (BinaryFields definition application) = rows_text Binary definition.now application
 
 -- how rows are written

@@ -4,7 +4,6 @@ ghost use Rattle.std.specs.Prelude.{◌≡◌, ◌≢◌, ◌+◌, ◌^◌, ◌<
 ghost use Rattle.std.specs.List.{flat_map};
 ghost use Rattle.std.specs.Io.KnownBytes.{Appends, Keeps};
 ghost use Rattle.std.proofs.KnownBytes.{Appends-nil, Appends-trans};
-ghost use Rattle.tm_items.specs.Among.{is_packet_item};
 ghost use Rattle.tm_items.specs.Item.{Item};
 ghost use Rattle.tm_items.specs.Fronts.{front_items, front_packets, octets_of};
 ghost use Rattle.tm_devices.specs.Devices.{AppendsPrefix, CountsFailures};
@@ -13,7 +12,7 @@ ghost use Rattle.tm_output.specs.Packets.{HasHeader, item_with};
 ghost use Rattle.tm_output.specs.code.Outlets.{GivesNone, PutStopped, appends_split, binary_none, listed_none, octets_none, packet_none};
 ghost use Rattle.tm_output.specs.code.Quiet.{AreJoined, outs_of};
 ghost use Rattle.tm_output.specs.Outputs.{FixedDrain, PutsPart, Buffering, octets_buffering};
-ghost use Rattle.tm_output.specs.Pieces.{HasLine, Texts, binary_packet, listed, no_remark, packet_lead, packet_octets, rows_buffering};
+ghost use Rattle.tm_output.specs.Pieces.{HasLine, Texts, binary_packet, listed, packet_lead, packet_octets, packet_texts, rows_buffering};
 ghost use Rattle.tm_output.specs.Totals.{is_some_text};
 ghost use Rattle.tm_output.specs.code.ShelfLaws.{no_shelf, shelves_nil, shelves_split, shelves_trans};
 ghost use Rattle.tm_output.specs.Shelves.{Shelved, Shelves, shelf_text, shelf_buffering};
@@ -52,7 +51,7 @@ pub trait Outlet {
     /// What is given of an item: here, and to the report.
     ghost text: { Self.Fixed → Texts Self.Part };
 
-    /// Whether what belongs here is made in memory, and whether it may wait for a flush.
+    /// Whether memory is taken for what belongs here, whether that may wait for a flush, and whether memory for it is reserved before.
     ghost buffering: { Buffering };
 
     /// All that is held was passed on.
@@ -398,7 +397,7 @@ impl<W: Drain, T: PacketText> Outlet for PacketTexts<'_, W, T> {
 
     ghost grows = { Appends };
 
-    ghost text = { λ _. record { out = T.text; remark = no_remark; given = is_packet_item } };
+    ghost text = { λ _. packet_texts T.text };
 
     ghost buffering = { octets_buffering };
 

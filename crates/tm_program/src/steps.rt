@@ -168,7 +168,7 @@ fn records_before(resumed: &Option<Job>) -> u32 {
     }
 }
 
-// The report of the plan, once its names and its folder were checked.
+// Looks at the folder of the plan, and makes its report. Its names were checked.
 #[tactic(auto, using(tm_files::proofs::FaultLemmas::no_memory_run))]
 fn make_report<R: Files + AllocGlobal, E: Write + Drop>(
     rt: &R,

@@ -1,13 +1,14 @@
 //! Calls that are refused memory, one request after the other: on sequence counts, channels, definitions, settings and jobs. Each says so and
 //! leaves things as they were, and gives what it gives in ample memory as soon as there is enough.
 
+use crate::field_rows::ROW_OCTETS;
 use crate::fields::{HEAD, LEAD, PACKET, ROW, TEXT};
 use crate::reassembly::{GREATEST, layout};
 use crate::runs::settings_of;
 use std::alloc::Global;
 use std::process::Abort;
 use std::rt::Files;
-use tm_fields::{Definition, DefinitionFault, RowFault, RowWriter, Rows};
+use tm_fields::{BinaryRows, Definition, DefinitionFault, RowFault, RowWriter, Rows};
 use tm_frame::Layout;
 use tm_memory::{Answer, NOTHING_HELD, Turns, try_twice};
 use tm_packet::{Tracker, TrackerFault};
@@ -76,6 +77,7 @@ enum Call {
     Head,
     Row,
     KeptRow,
+    BinaryRow,
     ReadSettings,
     NewJob,
 }
@@ -124,6 +126,7 @@ impl Tried for Needs {
             Call::Head => head_made(alloc, &self.definition),
             Call::Row => row_made(alloc, &self.definition),
             Call::KeptRow => row_written(alloc, &self.definition),
+            Call::BinaryRow => octets_written(alloc, &self.definition),
             Call::ReadSettings => settings_read(alloc),
             Call::NewJob => job_made(alloc, &self.settings),
         }
@@ -240,6 +243,15 @@ fn row_written(alloc: Global, definition: &Definition) -> Answer {
     }
 }
 
+fn octets_written(alloc: Global, definition: &Definition) -> Answer {
+    match BinaryRows::new(alloc, definition) {
+        Ok(mut rows) => {
+            Answer::right_if(rows.write(LEAD, &PACKET).is_ok() && rows.row() == ROW_OCTETS)
+        }
+        Err(_) => Answer::Refused,
+    }
+}
+
 fn settings_read(alloc: Global) -> Answer {
     match Settings::read(alloc, SETTINGS.as_bytes()) {
         Ok(settings) => Answer::right_if(
@@ -323,6 +335,12 @@ fn row_of_a_packet(rt: HostRuntime) {
 fn row_of_rows(rt: HostRuntime) {
     // guards: head-row-and-rows-give-the-head-and-the-rows
     assert!(rt; passes_call(&rt, Call::KeptRow));
+}
+
+#[test]
+fn row_of_binary_rows(rt: HostRuntime) {
+    // guards: head-row-and-rows-give-the-head-and-the-rows
+    assert!(rt; passes_call(&rt, Call::BinaryRow));
 }
 
 #[test]

@@ -9,7 +9,7 @@ use Rattle.tm_output.specs.Pieces.{Texts, buffering_of}
 use Rattle.tm_checkpoint.specs.Works.{Work}
 use Rattle.tm_tool.specs.RecordingPieces.{pieces}
 use Rattle.tm_tool.specs.Runs.{Devices, DevicesCounted, IsHeadedStop, StoppedIn, course, devices_at}
-use Rattle.tm_tool.specs.code.Stepping.{RunHasEnded, RunReserved}
+use Rattle.tm_tool.specs.code.Stepping.{RunHasEnded, RunEndsOrLacksMemory}
 use Rattle.tm_output.specs.declared.totals.Totals.{Totals}
 use Rattle.tm_tool.specs.Courses.{RecordCourse, IsStoppedAt, whole}
 use Rattle.tm_tool.proofs.Courses.{run_cut, run_many, run_short, stopped_at}
@@ -113,8 +113,8 @@ module _ {A K : Type 0} (grows : K → K → List A → Type 0) (grows-nil : (k 
 -- ---- a run that reserves memory first
 
 module _ {A K : Type 0} (grows : K → K → List A → Type 0) (buffering : Buffering) (text : Texts A) (ending : Ending) (w : Work) where
-  -- with Ok it had it
-  pub ran_reserved : (left : Work) (old new : Devices K) (totals : Totals) → RunReserved text ending w left grows buffering old new (Ok totals)
+  -- with Ok there was that memory
+  pub ran_reserved : (left : Work) (old new : Devices K) (totals : Totals) → RunEndsOrLacksMemory text ending w left grows buffering old new (Ok totals)
       → RunHasEnded text ending w left grows buffering old new (Ok totals)
   ran_reserved left old new totals (inl (is, reserved, same)) = absurd (cc)
   ran_reserved left old new totals (inr h) = h

@@ -122,7 +122,7 @@ module _ {A K : Type 0} (grows : K → K → List A → Type 0) (buffering : Buf
     pub headed : Took grows old mid head
     pub stopped : IsStoppedAt grows buffering (course text ending w) left_old left_new mid new fault
 
-  -- or memory was to be reserved behind it, and there was none: nothing was read
+  -- or it was written, and memory was to be reserved then, of which there was none: nothing was read
   pub record StopsUnreserved (head : List (Piece A)) (left_old left_new : Option (List ℕ)) (old new : View K) (fault : RunFault) : Type 0 where
     pub memory : fault ≡ NoMemory
     pub reserved : buffering.reserved ≡ true
@@ -132,7 +132,8 @@ module _ {A K : Type 0} (grows : K → K → List A → Type 0) (buffering : Buf
   -- where a fault leaves the devices of a run with a head
   abbrev pub IsHeadedStop : List (Piece A) → Devices K → Devices K → RunFault → Type 0
   IsHeadedStop head old new fault =
-      StopsAtHead head old.left new.left old.outputs new.outputs fault ⊎ (StopsBehindHead head old.left new.left old.outputs new.outputs fault
+      StopsAtHead head old.left new.left old.outputs new.outputs fault
+      ⊎ (StopsBehindHead head old.left new.left old.outputs new.outputs fault
       ⊎ StopsUnreserved head old.left new.left old.outputs new.outputs fault)
 
   -- and without one
@@ -142,9 +143,11 @@ module _ {A K : Type 0} (grows : K → K → List A → Type 0) (buffering : Buf
   -- What a fault says of a recording that tells its octets: there is one place up to which its pieces were written; and each fault has its reason.
   pub record StoppedIn (head : List (Piece A)) (old new : View K) (fault : RunFault) (octets : List ℕ) : Type 0 where
     pub cut : AppendsCut grows old new (head ++ pieces text ending w octets)
-    -- something was to be made in memory, and nothing was written of that piece; or memory was to be reserved, and the head alone was written
+    -- something was to be made in memory, and nothing was written of that piece; or memory was to be reserved, and nothing but the
+    -- head was written
     pub memory : fault ≡ NoMemory
-        → WantsMemory grows buffering old new (head ++ pieces text ending w octets) ⊎ ((buffering.reserved ≡ true) × Took grows old new head)
+        → WantsMemory grows buffering old new (head ++ pieces text ending w octets)
+        ⊎ ((buffering.reserved ≡ true) × Took grows old new head)
     -- some octets of that packet aren't there, and nothing of it is reported
     pub refused : fault ≡ Write → buffering.flush ≡ false → RefusesPut grows old new (head ++ pieces text ending w octets)
     -- it has more records than can be counted

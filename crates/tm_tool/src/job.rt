@@ -113,8 +113,9 @@ pub(crate) fn make_done(extractor: Extractor, fresh: bool, ending: Ending, total
 /// # Errors
 ///
 /// `Read`, `Write` or `Report` where a call of that device failed. `ShortRecording` where there are fewer whole records than are done.
-/// `TooMany` where a whole record follows 2^32 - 1. `NoMemory` where a line for the report can't be made, or with `Fields` a row. With
-/// `BinaryFields` memory for all rows is taken before the recording is read. The job is given up.
+/// `TooMany` where a whole record follows 2^32 - 1. `NoMemory` where a line for the report can't be made, or with `Fields` the head
+/// or a row. With `BinaryFields` a row's memory is reserved before the recording is read: without it `NoMemory` comes there. The job is
+/// given up.
 pub fn run<R: BufferedSource, W: Drain, V: Drain>(
     alloc: Global,
     job: Job,

@@ -31,7 +31,8 @@ ghost use Rattle.tm_tool.specs.Runs.{RunsOverAll, StopsAtOnePlace, StopsAtOnePla
 
 /// Recordings that tell their octets: what `run` and `split` promise of the octets that were read holds for the whole recording.
 /// With `Ok` exactly its pieces were written, down to the ending. After a fault there is one place up to which they were
-/// written. `NoMemory` comes only where something was to be made in memory. A refused put leaves some octets of its packet out.
+/// written. `NoMemory` comes only where something was to be made in memory, or where memory was to be reserved and nothing but a head
+/// was written. A refused put leaves some octets of its packet out.
 /// There are more records than can be counted, or fewer than are done.
 pub fn whole_recordings()
     ensures ran { (command : Command) (ending : Ending) (job : JobState)

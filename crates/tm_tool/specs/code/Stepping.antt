@@ -79,7 +79,7 @@ module _ {A : Type 0} (text : Texts A) (ending : Ending) (w left : Work) where
   abbrev pub RunHasEnded : {K : Type 0} → (K → K → List A → Type 0) → Buffering → Devices K → Devices K → Result Totals RunFault → Type 0
   RunHasEnded grows buffering old new r = HasEnded grows buffering (course text ending w) old new Leaves r
 
-  -- or it didn't begin: memory was to be reserved, and there was none
-  abbrev pub RunReserved : {K : Type 0} → (K → K → List A → Type 0) → Buffering → Devices K → Devices K → Result Totals RunFault → Type 0
-  RunReserved grows buffering old new r =
+  -- it ended so; or it didn't begin, since memory was to be reserved and there was none
+  abbrev pub RunEndsOrLacksMemory : {K : Type 0} → (K → K → List A → Type 0) → Buffering → Devices K → Devices K → Result Totals RunFault → Type 0
+  RunEndsOrLacksMemory grows buffering old new r =
       ((r ≡ Err NoMemory) × (buffering.reserved ≡ true) × (new ≡ old)) ⊎ RunHasEnded grows buffering old new r

@@ -122,7 +122,7 @@ module _ {A K : Type 0} (grows : K → K → List A → Type 0) (buffering : Buf
     pub headed : Took grows old mid head
     pub stopped : IsStoppedAt grows buffering (course text ending w) left_old left_new mid new fault
 
-  -- or it was written, and memory was to be reserved then, of which there was none: nothing was read
+  -- or it was written, and there was no memory to reserve then: nothing was read
   pub record StopsUnreserved (head : List (Piece A)) (left_old left_new : Option (List ℕ)) (old new : View K) (fault : RunFault) : Type 0 where
     pub memory : fault ≡ NoMemory
     pub reserved : buffering.reserved ≡ true

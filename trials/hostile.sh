@@ -23,9 +23,8 @@ LARGEST=${LARGEST:-1048576}
 ANYTHING=${ANYTHING:-120}
 PICTURED=${PICTURED:-1000000}
 example=$(realpath "$here/../example")
-folder=$(mktemp -d)
-trap 'jobs -pr | xargs -r kill 2>/dev/null; rm -rf "$folder"' EXIT
-cd "$folder" || exit 2
+folders=$(mktemp -d)
+trap 'jobs -pr | xargs -r kill 2>/dev/null; rm -rf "$folders"' EXIT
 ulimit -c 0
 export LC_ALL=C
 unset TMX_EXPLAIN
@@ -115,8 +114,10 @@ plan() {
     planned=$1
 }
 
-# Tries a group, and sees that it made the trials that it plans.
+# Tries a group in a folder of its own, and sees that it made the trials that it plans.
 try_group() {
+    folder=$folders/$1
+    { mkdir -p "$folder" && cd "$folder"; } || exit 2
     tried=0
     planned=
     "$1"

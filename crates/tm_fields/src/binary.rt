@@ -1,82 +1,91 @@
 //! The values of a packet in octets, numbers with the least significant octet first.
 
-ghost use Rattle.std.specs.Prelude.{◌≡◌, ◌+◌, ◌*◌, ◌/◌, ◌^◌, ◌<◌, ◌≤◌, ◌++◌, true, vec_len, vec_capacity};
+ghost use Rattle.std.specs.Prelude.{◌≡◌, ◌+◌, ◌*◌, ◌/◌, ◌^◌, ◌<◌, ◌≤◌, ◌++◌, true, length, take};
 ghost use Rattle.byteorder.specs.Endian.{little_bytes};
 ghost use Rattle.tm_fields.specs.Binary.{extended, value_length, value_octets, row_lead, number_length};
 ghost use Rattle.tm_fields.specs.Numbers.{bits_in, octets_at};
 ghost use Rattle.tm_fields.specs.Reading.{end_of, greatest_end, is_sound};
 
-use crate::field::{DataType, Field};
+use crate::field::{DataType, Field, number_length};
 use crate::lead::Lead;
 use crate::numbers::number_from;
 use crate::values::aligned_octets;
-use tm_bits::push;
 
-// A number in two's complement, with its sign extended.
+// A number in two's complement, with its sign extended: the bit of the sign is taken away twice.
 fn extend_sign(bits: u32, number: u64) -> u64
     requires some { 1 ≤ bits }
     requires few { bits ≤ 64 }
     requires bound { number < 2 ^ bits }
     ensures { result ≡ extended bits number }
 {
-    let sign = 1u64 << (bits - 1);
-    if number < sign {
-        return number;
-    }
-    (number - sign).wrapping_sub(sign)
+    let sign = number >> (bits - 1);
+    number.wrapping_sub(sign << (bits - 1) << 1)
 }
 
-// Appends a number of `bits` bits, the least significant octet first.
+// Writes a number of `bits` bits to a place, the least significant octet first, and answers the place after it. Where they fit, all
+// eight octets of a `u64` are written, since a known number of them is copied without a call. So the row's octets after that place
+// aren't kept.
 #[inline(always)]
-fn push_number(row: &mut Vec<u8>, bits: u32, number: u64)
-    requires { vec_len row.old + number_length bits ≤ vec_capacity row.old }
-    ensures items { row.new.items ≡ row.old.items ++ little_bytes (number_length bits) number }
-    ensures len { vec_len row.new ≡ vec_len row.old + number_length bits }
-    ensures room { vec_capacity row.old ≤ vec_capacity row.new }
+fn write_number(row: &mut [u8], place: usize, bits: u32, number: u64) -> usize
+    requires room { place + number_length bits ≤ length row.old }
+    ensures after { result ≡ place + number_length bits }
+    ensures put { take result row.new ≡ take place row.old ++ little_bytes (number_length bits) number }
 {
     let octets = number.to_le_bytes();
-    match bits {
-        0..=8 => push(row, &octets[..1]),
-        9..=16 => push(row, &octets[..2]),
-        17..=32 => push(row, &octets[..4]),
-        _ => push(row, &octets),
+    let many = number_length(bits) as usize;
+    if 8 <= row.len() - place {
+        row[place..place + 8].copy_from_slice(&octets);
+    } else {
+        row[place..place + many].copy_from_slice(&octets[..many]);
     }
+    place + many
 }
 
-// Appends `count` octets of a packet from a bit on.
+// Writes `count` octets of a packet from a bit on to a place, and answers the place after them.
 #[tactic(auto, using(std::proofs::lemmas::Grind::common_steps, crate::proofs::NumberLemmas::octets_at_length, crate::proofs::NumberLemmas::octets_next))]
-fn push_octets(row: &mut Vec<u8>, packet: &[u8], at: u32, count: u32)
+fn write_octets(row: &mut [u8], place: usize, packet: &[u8], at: u32, count: u32) -> usize
     requires within { at + 8 * count ≤ bits_in packet.now }
     requires small { at + 8 * count ≤ greatest_end }
-    requires room { vec_len row.old + count ≤ vec_capacity row.old }
-    ensures items { row.new.items ≡ row.old.items ++ octets_at packet.now at count }
-    ensures len { vec_len row.new ≡ vec_len row.old + count }
-    ensures room { vec_capacity row.old ≤ vec_capacity row.new }
+    requires room { place + count ≤ length row.old }
+    ensures after { result ≡ place + count }
+    ensures put { take result row.new ≡ take place row.old ++ octets_at packet.now at count }
 {
     if at % 8 == 0 {
-        push(row, aligned_octets(packet, at, count));
-        return;
+        let end = place + count as usize;
+        row[place..end].copy_from_slice(aligned_octets(packet, at, count));
+        return end;
     }
+    let mut end = place;
     for i in 0..count {
-        push(row, &[number_from(packet, at + 8 * i, 8) as u8]);
+        end = write_number(row, end, 8, number_from(packet, at + 8 * i, 8));
     }
+    end
 }
 
-/// Appends a field's octets.
-pub(crate) fn push_value_octets(row: &mut Vec<u8>, field: &Field, packet: &[u8])
+/// Writes a field's octets to a place of a row, and answers the place after them. The row's octets after that aren't kept.
+pub(crate) fn write_value_octets(
+    row: &mut [u8],
+    place: usize,
+    field: &Field,
+    packet: &[u8],
+) -> usize
     requires sound { is_sound field.now ≡ true }
     requires within { end_of field.now ≤ bits_in packet.now }
-    requires room { vec_len row.old + value_length field.now ≤ vec_capacity row.old }
-    ensures items { row.new.items ≡ row.old.items ++ value_octets packet.now field.now }
-    ensures len { vec_len row.new ≡ vec_len row.old + value_length field.now }
-    ensures room { vec_capacity row.old ≤ vec_capacity row.new }
+    requires room { place + value_length field.now ≤ length row.old }
+    ensures after { result ≡ place + value_length field.now }
+    ensures put { take result row.new ≡ take place row.old ++ value_octets packet.now field.now }
 {
     let (at, bits) = (field.begin, field.length);
     match field.data_type {
-        DataType::Uint | DataType::Float => push_number(row, bits, number_from(packet, at, bits)),
-        DataType::Int => push_number(row, bits, extend_sign(bits, number_from(packet, at, bits))),
-        DataType::Str => push_octets(row, packet, at, bits / 8),
-        DataType::Fill => {}
+        DataType::Uint | DataType::Float => {
+            write_number(row, place, bits, number_from(packet, at, bits))
+        }
+        DataType::Int => {
+            let number = extend_sign(bits, number_from(packet, at, bits));
+            write_number(row, place, bits, number)
+        }
+        DataType::Str => write_octets(row, place, packet, at, bits / 8),
+        DataType::Fill => place,
     }
 }
 

@@ -10,7 +10,7 @@ ghost use Rattle.tm_fields.specs.Rows.{IsRow, RefusesRow, RefusesShort, bits_nee
 ghost use Rattle.tm_fields.specs.declared.field.Field.{Field};
 ghost use Rattle.tm_fields.specs.declared.rows.RowForm.TheVariants.{Text, Binary};
 
-use crate::binary::{push_value_octets, row_lead};
+use crate::binary::{row_lead, write_value_octets};
 use crate::cells::Cells;
 use crate::columns::{Columns, find_columns};
 use crate::faults::RowFault;
@@ -24,7 +24,6 @@ use csv::ByteRecord;
 use std::alloc::{AllocError, Global};
 use std::collections::BTreeSet;
 use std::marker::Model;
-use tm_bits::push;
 use tm_faults::{Column, DefinitionFault, NoMemory};
 
 /// The fields that packets are read by, at most 1000.
@@ -200,27 +199,18 @@ impl Definition {
         Ok(())
     }
 
-    /// Writes the row of a packet that is long enough in the binary form at the end of another. Memory is taken at once, and only
-    /// where there isn't enough.
+    // Writes the row of a packet that is long enough in the binary form over octets that are as many.
     #[tactic(auto, using(crate::proofs::RowLemmas::fits_needed))]
-    pub(crate) fn push_binary_row(
-        &self,
-        row: &mut Vec<u8>,
-        lead: Lead,
-        packet: &[u8],
-    ) -> Result<(), AllocError>
-        requires { bits_needed self.now ≤ bits_in packet.now }
-        ensures items { OnOk result (row.new.items ≡ row.old.items ++ row_octets self.now lead packet.now) }
-        ensures none { OnErr result (row.new.items ≡ row.old.items) }
-        ensures kept { vec_capacity row.old ≤ vec_capacity row.new }
-        ensures enough { vec_len row.old + row_length self.now ≤ vec_capacity row.old → IsOk result }
+    fn fill_binary_row(&self, row: &mut [u8], lead: Lead, packet: &[u8])
+        requires long { bits_needed self.now ≤ bits_in packet.now }
+        requires length { length row.old ≡ row_length self.now }
+        ensures { row.new ≡ row_octets self.now lead packet.now }
     {
-        row.reserve(self.length as usize)?;
-        push(row, &row_lead(lead));
+        row[..16].copy_from_slice(&row_lead(lead));
+        let mut place = 16;
         for field in &self.fields {
-            push_value_octets(row, field, packet);
+            place = write_value_octets(row, place, field, packet);
         }
-        Ok(())
     }
 
     /// Writes the row of a packet in the binary form in place of another. Where there is memory for a row, it takes none.
@@ -242,14 +232,16 @@ impl Definition {
         ensures kept { vec_capacity row.old ≤ vec_capacity row.new }
         ensures enough { row_length self.now ≤ vec_capacity row.old → IfErr result (λ f. f ≢ RowFault.NoMemory) }
     {
-        row.clear();
         if let Err(fault) = self.check_length(packet) {
+            row.clear();
             return Err(fault);
         }
-        match self.push_binary_row(row, lead, packet) {
-            Ok(()) => Ok(()),
-            Err(_) => Err(RowFault::NoMemory),
+        if row.resize(self.length as usize, 0).is_err() {
+            row.clear();
+            return Err(RowFault::NoMemory);
         }
+        self.fill_binary_row(row.as_mut_slice(), lead, packet);
+        Ok(())
     }
 
     /// The row of a packet, a line of comma-separated values: the lead's numbers, and the values of all fields but those of type

@@ -60,9 +60,11 @@ pub struct Field {
     pub length: u32,
 }
 
-// The fewest of 1, 2, 4 and 8 octets that hold `bits` bits.
-fn number_length(bits: u32) -> u32
-    ensures { result ≡ number_length bits }
+/// The fewest of 1, 2, 4 and 8 octets that hold `bits` bits.
+#[inline(always)]
+pub(crate) fn number_length(bits: u32) -> u32
+    ensures octets { result ≡ number_length bits }
+    ensures bound { result ≤ 8 }
 {
     match bits {
         0..=8 => 1,

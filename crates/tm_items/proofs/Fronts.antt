@@ -172,7 +172,3 @@ front-next limit seen channel place at n o left h is within e far =
       items = rw (first, few, next) refl;
       longer = ap (λ (ps : List (List ℕ)). length (octets_of ps)) first ∙ length-append (take n left) (octets_of (front_packets limit (drop (at + n) o))) ∙ omega (arith, few);
     }
-
--- and where it has none, none is left
-pub front-last : (limit at : ℕ) (o left : List ℕ) → left ≡ take (length o - at) (drop at o) → None ≡ front_header limit left → front_packets limit (drop at o) ≡ []
-front-last limit at o left is e = front-none limit (drop at o) (ap (has_packet limit) (sym (is ∙ take_rest o at)) ∙ header-none limit left e)

@@ -57,9 +57,6 @@ front_is limit n octets h e far =
       front = front-some limit octets head.there ∙ rw (few, reached) refl;
     }
 
-pub front_none : (limit : ℕ) (octets : List ℕ) → None ≡ front_header limit octets → front_packets limit octets ≡ []
-front_none limit octets e = front-none limit octets (header-none limit octets e)
-
 -- packets, and others after them
 octets_of-append : (ps qs : List (List ℕ)) → octets_of (ps ++ qs) ≡ octets_of ps ++ octets_of qs
 octets_of-append [] qs = refl
@@ -152,19 +149,6 @@ module _ {A : Type 0} (text : Texts A) (joins : Item → Bool) (limit : ℕ) (ol
         quiet = rw items (quiet_more text old before x done.quiet (rw (head.item, done.noted_is) at silent));
         joined = rw items (joined_more joins before x done.joined (rw head.item at one));
       }
-
--- no octets were noted, and so nothing
-pub nothing_noted : {A : Type 0} (text : Texts A) (joins : Item → Bool) (limit : ℕ) (old new : Entries) (totals sum : Totals) (span : Span) (many : ℕ)
-    → HasNoted text joins limit old new totals sum span many → many ≡ 0 → (new ≡ old) × (sum ≡ totals)
-nothing_noted text joins limit old new totals sum span many done none = (rw (done.none none) at done.noted_is, rw (done.none none) at done.totals_is)
-
--- no packets were accepted
-pub none_accepted : {S : Type 0} (takes : S → Item → S → Type 0) (limit : ℕ) (s t : S) (span : Span) → t ≡ s → IsAccepted takes limit s t span 0
-none_accepted takes limit s t span same = record {
-  packets = [];
-  first = record { inside = omega arith; octets = refl; front = refl };
-  accepted = same;
-}
 
 -- ---- taken
 

@@ -89,7 +89,8 @@ impl<R: Files + AllocGlobal> EndedRun<'_, R> {
         match find_clash(alloc, plan, &identities) {
             Ok(Some(clash)) => Ok((Some(clash.written), clash.over)),
             Ok(None) if plan.dir.is_some() => {
-                let same = identities.find(&identity_of(self.rt, name)?, &Place::ALL);
+                let packets = identity_of(self.rt, name)?;
+                let same = identities.find(&packets, &Place::OTHERS_OF_PACKETS);
                 Ok((None, same.ok_or(Untold::Unknown)?))
             }
             Ok(None) => Err(Untold::Unknown),

@@ -1,13 +1,15 @@
 //! The files of a run, and which of them clash.
 
-ghost use Rattle.std.specs.Prelude.{◌≡◌, find, is_some};
-ghost use Rattle.tm_file_identity.specs.FileIdentities.{all_places, clash_at, has, identity_at, is_at, others_of};
+ghost use Rattle.std.specs.Prelude.{◌≡◌, Some, find, is_some};
+ghost use Rattle.tm_file_identity.specs.FileIdentities.{clash_at, has, identity_at, is_at, others_of, others_of_packets};
 
 use crate::identity::FileIdentity;
 use Place::{
     Checkpoint, Definition, Errors, Faults, Output, Recording, Report, Resumed, Settings,
     TemporaryCheckpoint,
 };
+use std::alloc::Global;
+use std::array;
 
 /// What a file or a stream is to a run.
 #[derive(Clone, Copy, Debug, PartialEq, Eq)]
@@ -15,22 +17,36 @@ pub enum Place {
     Recording,
     Settings,
     Definition,
+    /// Standard output and standard error, where the run writes to them.
+    Output,
+    Errors,
     /// The checkpoint to go on from.
     Resumed,
     Report,
     Checkpoint,
     /// The file beside the checkpoint, which takes its name.
     TemporaryCheckpoint,
-    /// Standard output and standard error, where the run writes to them.
-    Output,
-    Errors,
-    /// Standard error in any case.
+    /// Standard error in any case: the line of a fault goes there.
     Faults,
 }
 
 impl Place {
-    /// All places of files, as far as the run reads or writes them. A file of packets must not be written over any.
-    pub const ALL: [Place; 9] = [
+    /// All places, in the order of their numbers.
+    pub const ALL: [Place; 10] = [
+        Recording,
+        Settings,
+        Definition,
+        Output,
+        Errors,
+        Resumed,
+        Report,
+        Checkpoint,
+        TemporaryCheckpoint,
+        Faults,
+    ];
+
+    /// The places of the files over which no file of packets must be written: all that the run reads or writes.
+    pub const OTHERS_OF_PACKETS: [Place; 9] = [
         Recording,
         Settings,
         Definition,
@@ -73,39 +89,36 @@ impl Place {
 /// What the names of a run's files stand for: `FileIdentity::other` where the run has no such file.
 #[derive(Drop)]
 pub struct FileIdentities {
-    /// Four that are read: the recording, the settings, the definition, and the checkpoint to go on from.
-    pub recording: FileIdentity,
-    pub settings: FileIdentity,
-    pub definition: FileIdentity,
-    pub resumed: FileIdentity,
-    /// Three that are written: the report, the checkpoint, and the file beside it, which takes its name.
-    pub report: FileIdentity,
-    pub checkpoint: FileIdentity,
-    pub temporary_checkpoint: FileIdentity,
-    /// Standard output and standard error, where the run writes to them.
-    pub output: FileIdentity,
-    pub errors: FileIdentity,
-    /// Standard error in any case: the line of a fault goes there.
-    pub faults: FileIdentity,
+    /// One for each place, in the order of `Place::ALL`.
+    pub identities: [FileIdentity; 10],
 }
 
 impl FileIdentities {
+    ghost use Rattle.std.specs.Prelude.{set, IsSomeAnd};
+    ghost use Rattle.tm_file_identity.specs.FileIdentity.{IsOther};
+    ghost use Rattle.tm_file_identity.specs.FileIdentities.{place_number};
+
+    /// Those of a run without files.
+    pub fn none(alloc: Global) -> FileIdentities
+        ensures { (place : Place) → IsSomeAnd (identity_at result place) IsOther }
+    {
+        FileIdentities {
+            identities: array::from_fn(|_| FileIdentity::other(alloc)),
+        }
+    }
+
+    /// Sets the identity of the file at a place.
+    pub fn set(&mut self, place: Place, identity: FileIdentity)
+        ensures { self.new.identities ≡ set self.old.identities (place_number place) identity }
+    {
+        self.identities[place as usize] = identity;
+    }
+
     /// The identity of the file at a place.
     pub fn at(&self, place: Place) -> &FileIdentity
-        ensures { result.now ≡ identity_at self.now place }
+        ensures { identity_at self.now place ≡ Some result.now }
     {
-        match place {
-            Recording => &self.recording,
-            Settings => &self.settings,
-            Definition => &self.definition,
-            Resumed => &self.resumed,
-            Report => &self.report,
-            Checkpoint => &self.checkpoint,
-            TemporaryCheckpoint => &self.temporary_checkpoint,
-            Output => &self.output,
-            Errors => &self.errors,
-            Faults => &self.faults,
-        }
+        &self.identities[place as usize]
     }
 
     /// The first of some places whose file has this identity.
@@ -125,10 +138,10 @@ impl FileIdentities {
         self.find(self.at(place), place.others())
     }
 
-    /// Whether the identity is that of one of the run's files.
+    /// Whether the identity is that of one of the run's files, so that no file of packets may have it.
     pub fn has(&self, identity: &FileIdentity) -> bool
         ensures { result ≡ has self.now identity.now }
     {
-        self.find(identity, &Place::ALL).is_some()
+        self.find(identity, &Place::OTHERS_OF_PACKETS).is_some()
     }
 }

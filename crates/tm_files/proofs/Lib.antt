@@ -1,3 +1,4 @@
 pub mod ClashLemmas
 pub mod FaultLemmas
 pub mod FileLemmas
+pub mod PlaceLemmas

@@ -1,6 +1,6 @@
 //! What the names of a plan's files stand for, before any of them is written.
 
-ghost use Rattle.std.specs.Prelude.{IfErr, IfOk, option_map};
+ghost use Rattle.std.specs.Prelude.{IfErr, IfOk, IsSomeAnd, option_map};
 ghost use Rattle.tm_file_identity.specs.FileIdentities.{identity_at};
 ghost use Rattle.tm_files.specs.code.Files.{IsNoMemory};
 ghost use Rattle.tm_files.specs.FileIdentities.{IsOfAny, IsOfPlace};
@@ -74,19 +74,13 @@ pub fn identify_files<N: Namespace + AllocGlobal>(
     names: &N,
     plan: &Plan,
 ) -> Result<FileIdentities, ToolFault>
-    ensures identities { IfOk result (λ s. (place : Place) → IsOfPlace (N.stands_for names.now) plan.now place (identity_at s place)) }
+    ensures identities { IfOk result (λ s. (place : Place)
+        → IsSomeAnd (identity_at s place) (IsOfPlace (N.stands_for names.now) plan.now place)) }
     ensures refused { IfErr result IsNoMemory }
 {
-    Ok(FileIdentities {
-        recording: identify_place(names, plan, Place::Recording)?,
-        settings: identify_place(names, plan, Place::Settings)?,
-        definition: identify_place(names, plan, Place::Definition)?,
-        resumed: identify_place(names, plan, Place::Resumed)?,
-        report: identify_place(names, plan, Place::Report)?,
-        checkpoint: identify_place(names, plan, Place::Checkpoint)?,
-        temporary_checkpoint: identify_place(names, plan, Place::TemporaryCheckpoint)?,
-        output: identify_place(names, plan, Place::Output)?,
-        errors: identify_place(names, plan, Place::Errors)?,
-        faults: identify_place(names, plan, Place::Faults)?,
-    })
+    let mut identities = FileIdentities::none(names.alloc());
+    for place in Place::ALL {
+        identities.set(place, identify_place(names, plan, place)?);
+    }
+    Ok(identities)
 }

@@ -1,4 +1,4 @@
-use Rattle.std.proofs.Common.{◌≡◌, ℕ, ◌++◌, ap, sym, ◌∙◌, arith, length, length-take-le}
+use Rattle.std.proofs.Common.{ℕ, ◌++◌, ap, sym, ◌∙◌, arith, length, length-take-le}
 use Rattle.std.proofs.lemmas.List.Sums.{sum_by-drop_more}
 use Rattle.tm_fields.specs.Binary.{value_length, value_octets, row_lead}
 use Rattle.tm_fields.proofs.RowLemmas.{values_more}

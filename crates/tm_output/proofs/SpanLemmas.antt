@@ -1,5 +1,5 @@
 -- Packets at the front of a span: the first of them, and those that add nothing to the report.
-use Rattle.std.proofs.Common.{◌≡◌, ◌≢◌, ℕ, Bool, false, true, ◌+◌, ◌-◌, ◌<◌, ◌≤◌, Some, None, List, [], ◌∷◌, ◌++◌, length, take, drop, refl, sym, ap, subst, ◌∙◌, append-nil, append_assoc, length-append, arith, inl, inr, ⊎_elim}
+use Rattle.std.proofs.Common.{◌≡◌, ◌≢◌, ℕ, Bool, false, true, ◌+◌, ◌-◌, ◌<◌, ◌≤◌, Some, List, [], ◌∷◌, ◌++◌, length, take, drop, refl, sym, ap, subst, ◌∙◌, append-nil, append_assoc, length-append, arith, inl, inr, ⊎_elim}
 use Rattle.std.specs.Borrow.{Bor}
 use Rattle.std.proofs.KnownBytes.{Appends-nil}
 use Rattle.std.proofs.lemmas.Bool.{cases_lt, false≢true}
@@ -13,7 +13,7 @@ use Rattle.tm_items.specs.Sinks.{RefusesOne, TakesAll}
 use Rattle.tm_items.specs.Fronts.{front_header, front_items, front_length, front_packets, octets_of, placed}
 use Rattle.tm_items.proofs.Headers.{header-front}
 use Rattle.tm_items.proofs.Leads.{Leads, RefusesOne-left, leads_all}
-use Rattle.tm_items.proofs.Fronts.{front-none, front-some, header-none, header-some, whole-true}
+use Rattle.tm_items.proofs.Fronts.{front-some, header-some, whole-true}
 use Rattle.tm_devices.specs.Devices.{raised}
 use Rattle.tm_faults.specs.declared.run.RunFault.{RunFault}
 use Rattle.tm_faults.specs.declared.run.RunFault.TheVariants.{Write}

@@ -133,16 +133,6 @@ header-some limit t h e = by (has_packet limit t) refl
         }
     by false is = absurd (some_none (e ∙ rw is refl))
 
-pub header-none : (limit : ℕ) (t : List ℕ) → None ≡ front_header limit t → has_packet limit t ≡ false
-header-none limit t e = by (has_packet limit t) refl
-  where
-    none_some : ◌≡◌ {A = Option Fields} None (Some (packet_header_of t)) → ⊥
-    none_some q = cc
-
-    by : (b : Bool) → has_packet limit t ≡ b → has_packet limit t ≡ false
-    by true is = absurd (none_some (e ∙ rw is refl))
-    by false is = is
-
 -- What is left of octets from a place on has a packet at its front: what is left after that.
 pub record IsNext (limit seen channel place at n : ℕ) (o left : List ℕ) : Type 0 where
   pub inside : at + n ≤ length o

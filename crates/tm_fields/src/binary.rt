@@ -41,7 +41,8 @@ fn write_number(row: &mut [u8], place: usize, bits: u32, number: u64) -> usize
     place + many
 }
 
-// Writes `count` octets of a packet from a bit on to a place, and answers the place after them.
+// Writes `count` octets of a packet from a bit on to a place, and answers the place after them. The row's octets after that aren't
+// kept.
 #[tactic(auto, using(std::proofs::lemmas::Grind::common_steps, crate::proofs::NumberLemmas::octets_at_length, crate::proofs::NumberLemmas::octets_next))]
 fn write_octets(row: &mut [u8], place: usize, packet: &[u8], at: u32, count: u32) -> usize
     requires within { at + 8 * count ≤ bits_in packet.now }

@@ -44,7 +44,7 @@ enum tmx_status {
     TMX_COMMAND = 2,     /* there is no such command */
     TMX_SETTINGS = 3,    /* the settings are refused: fault is an enum tmx_settings_fault, key the key that it is about */
     TMX_CHECKPOINT = 4,  /* the checkpoint is refused: fault is an enum tmx_checkpoint_fault */
-    TMX_TOO_MANY = 5,    /* more than 4294967295 records are done in all */
+    TMX_TOO_MANY = 5,    /* a record would come after 4294967295 others */
     TMX_MEMORY = 6,      /* memory ran out */
     TMX_DEFINITION = 7,  /* the definition of fields is refused: fault is an enum tmx_definition_fault, column or row what it is about */
     TMX_APPLICATION = 8, /* an application is none: they have numbers up to 2047 */
@@ -142,7 +142,7 @@ struct tmx_request {
 };
 
 /* What a call answers. A length is the number of octets that belong into a room, also where the room is too small. Where the status is neither
-   TMX_DONE nor TMX_ROOM, all but the first five numbers is 0. */
+   TMX_DONE nor TMX_ROOM, all but the first five numbers are 0. */
 struct tmx_answer {
     uint32_t status;          /* an enum tmx_status */
     uint32_t fault;           /* what is wrong with the settings, the checkpoint or the definition, or which of them is too long, else 0 */
@@ -183,7 +183,7 @@ typedef struct tmx_job tmx_job;
 enum { TMX_LINE_MOST = 320 };
 
 /* Why a job isn't opened, or takes no definition: as the first numbers of struct tmx_answer, and the line that the program prints, with the name
-   of the key. Only a line with the name of an unknown key can be longer than its room, and is cut. If memory runs out meanwhile, the line says
+   of the key, and for a file's name `settings`, `definition` or `checkpoint`. Only a line with the name of an unknown key can be longer than its room, and is cut. If memory runs out meanwhile, the line says
    that. */
 struct tmx_error {
     uint32_t status; /* an enum tmx_status */
@@ -200,7 +200,7 @@ enum tmx_event_kind {
     TMX_EVENT_BAD = 2,          /* a bad frame (why: an enum tmx_bad) */
     TMX_EVENT_MASTER_GAP = 3,   /* frames of any channels are missing before this record (expected, found, missing) */
     TMX_EVENT_GAP = 4,          /* frames of the channel are missing before this record (channel, expected, found, missing) */
-    TMX_EVENT_VCA = 5,          /* a frame that has no packets (channel) */
+    TMX_EVENT_VCA = 5,          /* a frame with other data than packets (channel) */
     TMX_EVENT_DROP = 6,         /* octets of packets are dropped (from, octets, place, channel, why: an enum tmx_drop) */
     TMX_EVENT_SHORT = 7,        /* at the end octets are left that are no whole record (octets) */
     TMX_EVENT_SEQUENCE_GAP = 8, /* packets of the application are missing (channel, application, expected, found, missing) */
@@ -285,8 +285,8 @@ struct tmx_progress {
 };
 
 /* Opens a job at the beginning of a recording, or where a checkpoint was written, by the program or by the library. Returns the status. Only
-   with TMX_DONE `*job` is written. Settings, and a checkpoint, are as in struct tmx_request, and refused as tmx_run refuses them. So is a
-   checkpoint of length 0. */
+   with TMX_DONE `*job` is written. Settings, and a checkpoint, are as in struct tmx_request, and refused as tmx_run refuses them. A
+   checkpoint of length 0 is refused as too short. */
 uint32_t tmx_job_new(tmx_job **job, const uint8_t *settings, size_t length, struct tmx_error *error);
 uint32_t tmx_job_resume(tmx_job **job, const uint8_t *settings, size_t length, const uint8_t *checkpoint, size_t length2, struct tmx_error *error);
 

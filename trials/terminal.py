@@ -111,6 +111,7 @@ def of_files():
         folder(PACKETS.format("--report dir"), "report"),
         folder("split --settings s.toml --dir dir --report dir pass.rec", "report"),
         folder(PACKETS.format("--checkpoint dir"), "checkpoint"),
+        failed(PACKETS.format("--checkpoint pipe"), "pipe", "the checkpoint pipe: a pipe or a device; name a file"),
         failed(PACKETS.format("--checkpoint beside"), "beside", "the file beside the checkpoint beside.new: a folder; name a file"),
         failed(RECORDING.format("''"), "", "the recording: an empty name; name a file"),
         failed("split --settings s.toml --dir '' pass.rec", "", "the folder: an empty name; name a file"),
@@ -197,14 +198,19 @@ def of_settings():
         toml("latin", 2, 6, "not UTF-8"),
         unknown("typo", "frame_lenght", "frame_length"),
         *[unknown(f"word-{word}", word, key) for word, key in MEANT.items()],
-        refused("unknown", "unknown bananas"),
+        *[refused(f"word-{word}", f"unknown {word}") for word in MEANINGLESS],
         value("missing", "missing", "spacecraft"),
         value("kind-spacecraft", "kind", "spacecraft"),
         *[value(f"range-{key}", "kind" if key == "error_control" else "range", key) for key in VALUES],
     ]
 
 
-MEANT = {"scid": "spacecraft", "vcid": "channels", "fecf": "error_control", "crc": "error_control", "asm": "skip_before", "rs": "skip_after"}
+MEANT = {
+    **{"scid": "spacecraft", "vcid": "channels", "fecf": "error_control", "crc": "error_control", "asm": "skip_before", "rs": "skip_after"},
+    **{"ofc": "ocf", "channel": "channels"},
+}
+# Near none: all characters would have to be others.
+MEANINGLESS = ["bananas", "vc", "len", "x"]
 MOST = {"spacecraft": 1023, "frame_length": 2048, "skip_before": 1024, "skip_after": 1024, "max_packet": 65542}
 LEAST = {"frame_length": 9, "max_packet": 7}
 VALUES = {key: f"an integer from {LEAST.get(key, 0)} to {most}" for key, most in MOST.items()} | {
@@ -414,7 +420,6 @@ def make_settings():
     write("s")
     write("twice", max_packet="100\nspacecraft = 42")
     write("typo", frame_length="", frame_lenght="256")
-    write("unknown", bananas="3")
     write("missing", spacecraft="")
     write("tiny", frame_length="9", error_control="false")
     write("chosen", channels="[0, 1, 3, 5, 7]")
@@ -425,7 +430,7 @@ def make_settings():
         write(f"range-{key}", **{key: value})
     for key, _, here in DIFFERENT:
         write(f"other-{key}", **{key: here})
-    for word in MEANT:
+    for word in [*MEANT, *MEANINGLESS]:
         write(f"word-{word}", **{word: "1"})
     write("shut")
     os.chmod("shut.toml", 0)

@@ -194,6 +194,10 @@ devices() {
         gives "$2 with closed standard input" 1 "tmx: read failed" "$command --report r <&-"
     done
     unready_checkpoints
+    mkfifo pipe
+    gives "a checkpoint that is a pipe" 1 "tmx: pipe: failed" "$packets --report r --checkpoint pipe $rec"
+    tell "a checkpoint that is a pipe: it is still one, with nothing beside it" "$([ -p pipe ] || ls -l pipe; ls pipe.new 2>/dev/null)"
+    rm pipe
     faults_of_keepers
     rm -rf split
     gives "split to a folder that is missing" 1 "tmx: write failed" "$split --report r $rec"

@@ -13,8 +13,10 @@ use tm_bits::Octets;
 use tm_file_identity::{Place, identity_of};
 use tm_files::{INPUT_NAME, find_clash, identify_files, name_at, read_file};
 
-// The system's numbers of two errors: a file isn't open, and it is a folder.
+// The system's numbers of three errors: a file isn't open, there is no such device, and a file is a folder.
 const CLOSED: i32 = 9;
+
+const DEVICE: i32 = 19;
 
 const FOLDER: i32 = 21;
 
@@ -26,6 +28,11 @@ fn is_regular<R: Files>(rt: &R, path: &str) -> bool {
 // It is a folder.
 fn is_folder<R: Files>(rt: &R, path: &str) -> bool {
     fs::metadata(rt, path).is_ok_and(|metadata| metadata.is_dir())
+}
+
+// It is a pipe or a device.
+fn is_device<R: Files>(rt: &R, path: &str) -> bool {
+    fs::metadata(rt, path).is_ok_and(|metadata| !metadata.is_file() && !metadata.is_dir())
 }
 
 // The system refuses by this error to write to the file of this path. A pipe or a device isn't asked.
@@ -60,6 +67,7 @@ pub(crate) fn error_text(alloc: Global, place: Option<Place>, file: &str, number
     let error = io::Error::from_raw_os_error(number);
     let what = match error.kind() {
         _ if number == CLOSED => "closed; open it, or name a file",
+        _ if number == DEVICE => "a pipe or a device; name a file",
         ErrorKind::BrokenPipe => "the program that reads it has ended; see why",
         ErrorKind::NotFound => missing(place, file),
         ErrorKind::IsADirectory if place.is_some() => "a folder; name a file",
@@ -111,7 +119,7 @@ impl<R: Files + AllocGlobal> EndedRun<'_, R> {
     }
 
     /// Why the file of this name failed, or standard output, as what is at a place. Without an error of the system it
-    /// would be written over another file, is a folder, or is closed.
+    /// would be written over another file, is a folder, a pipe or a device, or is closed.
     pub(crate) fn file_text(&self, place: Option<Place>, name: &str) -> Said
         ensures { is_some self.now.number ≡ true → IfErr result (λ e. e ≡ Untold.NoMemory) }
     {
@@ -120,6 +128,7 @@ impl<R: Files + AllocGlobal> EndedRun<'_, R> {
             None => match self.clash_text(name) {
                 Err(Untold::Unknown) if is_folder(self.rt, name) => FOLDER,
                 Err(Untold::Unknown) if place == Some(Place::Output) => CLOSED,
+                Err(Untold::Unknown) if is_device(self.rt, name) => DEVICE,
                 text => return text,
             },
         };

@@ -127,16 +127,16 @@ pub struct Replaced<'n> {
     octets: Vec<u8>,
 }
 
-// Whether a folder has this name: no file can take it.
-fn is_folder<R: Files>(rt: &R, path: &str) -> bool {
+// Whether this is the name of something else than a regular file, as a folder or a device: no file may take its place.
+fn is_no_file<R: Files>(rt: &R, path: &str) -> bool {
     match fs::metadata(rt, path) {
-        Ok(metadata) => metadata.is_dir(),
+        Ok(metadata) => !metadata.is_file(),
         Err(_) => false,
     }
 }
 
-/// Makes the file `NAME.new` beside a file, or empties it. An empty name is refused, and a folder in place of the file. A fault names the file
-/// as it was given.
+/// Makes the file `NAME.new` beside a file, or empties it. An empty name is refused, and a folder, a pipe or a device in place of the file. A
+/// fault names the file as it was given.
 pub fn begin_replacement<'n, R: Files + AllocGlobal>(
     rt: &R,
     name: &'n Octets,
@@ -150,7 +150,7 @@ pub fn begin_replacement<'n, R: Files + AllocGlobal>(
     let Ok(temporary) = String::from_utf8(temporary_name(alloc, path.as_bytes())?) else {
         return Err(file_fault(alloc, name));
     };
-    if path.is_empty() || is_folder(rt, path) {
+    if path.is_empty() || is_no_file(rt, path) {
         return Err(file_fault(alloc, name));
     }
     match File::create(rt, temporary.as_str()) {

@@ -1,5 +1,5 @@
 -- What to write for a key of the settings.
-use Rattle.std.specs.Prelude.{◌++◌, ℕ, List, Option, Some, None, codes, length, nat_eq}
+use Rattle.std.specs.Prelude.{◌++◌, ℕ, List, Option, Some, None, codes, length, min, nat_eq}
 use Rattle.std.specs.Fmt.{decimal}
 use Rattle.std.specs.Str.{chars}
 use Rattle.strsim.specs.Edits.{levenshtein_row}
@@ -12,6 +12,10 @@ use Rattle.tm_settings.specs.declared.limits.Limits.{Limits}
 -- how many edits of a character lead from a text to the name of a key
 abbrev pub edits_to : List ℕ → Key → ℕ
 edits_to text key = levenshtein_row nat_eq (chars text) (chars (key_name key)) (length (chars (key_name key)))
+
+-- as many edits lead to no key that is near
+abbrev pub edits_limit : List ℕ → ℕ
+edits_limit text = min (length text) 4
 
 -- what the value of a key with these limits has to be, or of a key without
 abbrev pub wanted_in : Key → Option Limits → List ℕ

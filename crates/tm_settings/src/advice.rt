@@ -3,7 +3,7 @@
 ghost use Rattle.std.specs.Prelude.{◌≡◌, ◌<◌, ◌≤◌, None, IfOk, IfSome};
 ghost use Rattle.std.specs.List.{All};
 ghost use Rattle.tm_faults.specs.Keys.{all_keys};
-ghost use Rattle.tm_settings.specs.Advice.{edits_to, wanted_of};
+ghost use Rattle.tm_settings.specs.Advice.{edits_limit, edits_to, wanted_of};
 
 use crate::limits::{Limits, number_limits};
 use std::alloc::{AllocError, Global};
@@ -17,15 +17,20 @@ fn edits_to(alloc: Global, text: &str, key: Key) -> Result<usize, AllocError>
     levenshtein(alloc, text, key.word())
 }
 
-// The nearest of some keys to a text, if fewer than four edits lead to one.
-fn nearest_of(alloc: Global, text: &str, keys: &[Key]) -> Result<Option<Key>, AllocError>
-    ensures near { IfOk result (λ found. IfSome found (λ key. edits_to text.now key < 4)) }
+// The nearest of some keys to a text, if fewer edits than the limit lead to one.
+fn nearest_of(
+    alloc: Global,
+    text: &str,
+    limit: usize,
+    keys: &[Key],
+) -> Result<Option<Key>, AllocError>
+    ensures near { IfOk result (λ found. IfSome found (λ key. edits_to text.now key < limit)) }
     ensures nearest { IfOk result (λ found. IfSome found
         (λ key. All (λ other. edits_to text.now key ≤ edits_to text.now other) keys.now)) }
-    ensures none { IfOk result (λ found. found ≡ None → All (λ other. 4 ≤ edits_to text.now other) keys.now) }
+    ensures none { IfOk result (λ found. found ≡ None → All (λ other. limit ≤ edits_to text.now other) keys.now) }
 {
     let mut nearest = None;
-    let mut least = 4;
+    let mut least = limit;
     for key in keys {
         let edits = edits_to(alloc, text, *key)?;
         if edits < least {
@@ -36,18 +41,19 @@ fn nearest_of(alloc: Global, text: &str, keys: &[Key]) -> Result<Option<Key>, Al
     Ok(nearest)
 }
 
-/// The key of the settings that is nearest to a text, if fewer than four edits of a character lead to one.
+/// The key of the settings that is nearest to a text, if fewer than four edits of a character lead to one, and fewer than the text has
+/// octets.
 ///
 /// # Errors
 ///
 /// `AllocError` where there is no room to count the edits.
 pub fn nearest_key(alloc: Global, text: &str) -> Result<Option<Key>, AllocError>
-    ensures near { IfOk result (λ found. IfSome found (λ key. edits_to text.now key < 4)) }
+    ensures near { IfOk result (λ found. IfSome found (λ key. edits_to text.now key < edits_limit text.now)) }
     ensures nearest { IfOk result (λ found. IfSome found
         (λ key. All (λ other. edits_to text.now key ≤ edits_to text.now other) all_keys)) }
-    ensures none { IfOk result (λ found. found ≡ None → All (λ other. 4 ≤ edits_to text.now other) all_keys) }
+    ensures none { IfOk result (λ found. found ≡ None → All (λ other. edits_limit text.now ≤ edits_to text.now other) all_keys) }
 {
-    nearest_of(alloc, text, &Key::ALL)
+    nearest_of(alloc, text, text.len().min(4), &Key::ALL)
 }
 
 /// What the value of a key has to be: for a number its limits, by which it is read.

@@ -5,4 +5,4 @@ use Rattle.tm_settings.proofs.advice.nearest_of.Given as goal
 
 -- the nearest of the keys so far
 abbrev pub invariant-loop-key : goal.invariant-loop-key
-invariant-loop-key l = IsNearest (edits_to l.text) (take l.key-index l.keys) l.nearest l.least
+invariant-loop-key l = IsNearest l.limit (edits_to l.text) (take l.key-index l.keys) l.nearest l.least

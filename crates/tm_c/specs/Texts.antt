@@ -23,7 +23,7 @@ long_line input.Settings = codes "tmx: settings: too long\n"
 long_line input.Definition = codes "tmx: definition: too long\n"
 long_line input.Checkpoint = codes "tmx: checkpoint: too long\n"
 
--- the line that the program prints of a refusal
+-- the line that the program prints of a refusal, where a file that is too long has its name
 abbrev pub refusal_line : Refusal → List ℕ
 refusal_line (TooLong told) = long_line told
 refusal_line (Settings fault) = settings_text fault

@@ -106,9 +106,9 @@ pub(crate) fn make_done(extractor: Extractor, fresh: bool, ending: Ending, total
 
 /// Reads the recording from its beginning, one record at a time, and passes over the records that are done. From those after
 /// them it gives what the job's settings choose. To `out` goes what the command gives of each whole packet. To the report goes each
-/// bad frame, gap of the master channel, gap of a channel, VCA frame and dropped part, and the notes of the packets' sequence
-/// counts. For each item what belongs to `out` is written first. With `Close` the recording is closed at its end; with `Keep` and
-/// `StopAfter` the job after the records is kept. Both outputs are flushed.
+/// bad frame, gap of the master channel, gap of a channel, VCA frame and dropped part. Notes of the packets' sequence counts, and
+/// packets that are too short for a row, go there, too. For each item what belongs to `out` is written first. With `Close` the
+/// recording is closed at its end; with `Keep` and `StopAfter` the job after the records is kept. Both outputs are flushed.
 ///
 /// # Errors
 ///

@@ -218,5 +218,5 @@ devices() {
     wide_recording
     checkpoint_stays "a checkpoint of 40 KB with room for 8 KiB" 1 "tmx: c: failed" \
         "trap '' XFSZ; ulimit -f 8; $tmx extract --settings wide.toml --report r --checkpoint c --stop-after 20 wide.rec"
-    plan 156
+    plan 158
 }

@@ -72,7 +72,9 @@ run ./build or ./build lib first, in $PWD/tree" "tree/install --prefix p"
     touch file
     gives "install below a file" 1 "mkdir: cannot create directory '$PWD/file': Not a directory" "tree/install --prefix file/p"
     tell "install where no folder can be made" \
-        "$(tree/install --prefix /proc/tmx 2>&1 | grep -q "^mkdir: .*'/proc/\.tmx" || echo "that isn't said")"
+        "$(tree/install --prefix /proc/tmx 2>&1 | grep -q "^mktemp: .*'/proc/\.tmx" || echo "that isn't said")"
+    gives "install with help that can't be written" 1 "" "tree/install --prefix p --help >/dev/full 2>/dev/null"
+    gives "install with usage that can't be written" 2 "" "tree/install --prefix p all 2>/dev/full"
     tell "what is refused makes nothing" "$(find . -name p -o -name '.tmx*')"
 }
 
@@ -115,15 +117,19 @@ foreign_files() {
     in_the_way "install where a changed file stayed" q $page
 }
 
-# A link where the program stood, to that program: it is somebody else's too.
+# A link where the program stood, to that program: it is somebody else's too. So is one in the place of a folder, and what a
+# list names outside of the prefix.
 foreign_link() {
     tree/install --prefix k >/dev/null
     mv k/bin/tmx copy
     ln -s "$PWD/copy" k/bin/tmx
     in_the_way "install over a link to the program" k bin/tmx
+    mv k/share/man man
+    ln -s ../../man k/share/man
+    sha256sum copy | sed 's:  :&../:' >>"k/$list"
     stays "removal beside a link to the program" k bin/tmx
     tell "removal beside a link to the program: it stays, and nothing else" \
-        "$(find k ! -type d ! -lname "$PWD/copy"; [ -L k/bin/tmx ] || echo "no link")"
+        "$(find k ! -type d ! -lname "$PWD/copy" ! -path k/share/man; [ -L k/bin/tmx ] || echo "no link"; cmp "$tmx" copy 2>&1)"
 }
 
 # A newer installation in the place of an older one, whose list has the form that it had before: nothing of it stays.
@@ -181,7 +187,7 @@ ended() {
         tell "an installation over an older one that is ended at mv $place leaves a program" "$(wrong_upgrade $place)"
         rm -rf e
     done
-    for place in "find 1" "mkdir 1" "mkdir 3" "mv 1" "mv 2" "mv 6"; do
+    for place in "find 1" "mktemp 1" "mkdir 2" "mv 1" "mv 2" "mv 6"; do
         # shellcheck disable=SC2086
         tell "an installation that is ended by a signal at $place leaves nothing" "$(wrong_end $place)"
         rm -rf e
@@ -326,5 +332,5 @@ install() {
     else
         skip 18 "the packages" "no dpkg-deb, or no strip"
     fi
-    plan 81
+    plan 83
 }

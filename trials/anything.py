@@ -168,8 +168,8 @@ def main(tmx, definition, seconds, first):
                 number, wrong = number + more, wrong + differ
             first += AT_ONCE
     print(f"{number} runs compared, up to seed {first - 1}, {len(wrong)} of them differ")
-    if wrong:
-        sys.exit("\n".join(wrong[:10]))
+    if wrong or not number:
+        sys.exit("\n".join(wrong[:10]) or 1)
 
 
 if __name__ == "__main__":

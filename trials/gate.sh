@@ -10,12 +10,13 @@
 # tells a length one octet too large. Each run ends at its first failure. Groups of a few lines show each rule by which trials are counted, and so does
 # a copy of ./test over stubs. Prints a line for each trial and a count, as hostile.sh does.
 set -u
+unset CDPATH
 here=$(cd "$(dirname "$0")" && pwd)
 tmx=$(realpath "${1:?the path of the program tmx is missing}")
 shift
 [ -z "${LIBRARY:-}" ] || LIBRARY=$(realpath "$LIBRARY")
-folder=$(mktemp -d)
-trap 'rm -rf "$folder"' EXIT
+folder=$(mktemp -d) || exit 2
+trap 'end_jobs; rm -rf "$folder"' EXIT
 cd "$folder" || exit 2
 export GIVE_UP=1 LARGEST=65536 ANYTHING=1 ROUNDS=1 PICTURED=400 CHUNKED=1
 python=$(command -v python3)
@@ -24,9 +25,19 @@ passed=0
 failed=0
 skipped=0
 
-# Says how a trial went: its name, and what is wrong, if anything.
+# Ends what runs in the background.
+end_jobs() {
+    jobs -pr | xargs -r kill 2>/dev/null
+    wait
+}
+
+# Says how a trial went: its name, and what is wrong, if anything. A command that looks for this may not have been ended by a signal.
 tell() {
-    if [ -z "$2" ]; then
+    local looked=$?
+    if [ $looked -gt 125 ]; then
+        failed=$((failed + 1))
+        echo "FAILED: $1: status $looked of what looks at it"
+    elif [ -z "$2" ]; then
         passed=$((passed + 1))
         echo "ok $1"
     else
@@ -137,7 +148,7 @@ run_groups() {
     for group in "$@"; do
         for case in $(cases_of "$group"); do
             [ $((running += 1)) -le "$(nproc)" ] || wait -n
-            run_group "$case" "$group" &
+            { trap end_jobs EXIT; run_group "$case" "$group"; } &
         done
     done
     wait
@@ -200,6 +211,8 @@ try_rules() {
         rules/hostile.sh "$tmx" "$group" >said 2>&1
         tell_failed "a group ${group//_/ }" "$(ended $? said)"
     done
+    rules/hostile.sh "$tmx" ' ' >said 2>&1
+    tell_failed "trials of no group" "$(ended $? said)"
 }
 
 # What goes wrong in a copy of ./test, where all that it runs is a stub: the program to put in the place of a stub, from standard input. For that
@@ -259,8 +272,8 @@ for group in "$@"; do
     fi
 done
 try_groups "${groups[@]}"
-# 18 rules, 22 ends of ./test, and the cases of all groups.
-planned=$((18 + 22 + $(for group in "$@"; do cases_of "$group"; done | wc -w)))
+# 19 rules, 22 ends of ./test, and the cases of all groups.
+planned=$((19 + 22 + $(for group in "$@"; do cases_of "$group"; done | wc -w)))
 tried=$((passed + failed + skipped))
 tell "all of it is tried" "$([ $tried = $planned ] || echo "$tried trials are made, and $planned planned")"
 echo "$passed ok, $failed failed, $skipped skipped"

@@ -12,6 +12,7 @@
 # stands in lines that begin with `note`. The last line counts: `N ok, N failed, N skipped`. The status is 0 where none failed.
 
 set -u
+unset CDPATH TMX_EXPLAIN
 here=$(cd "$(dirname "$0")" && pwd)
 tmx=$(realpath "${1:?the path of the program tmx is missing}")
 shift
@@ -23,11 +24,10 @@ LARGEST=${LARGEST:-1048576}
 ANYTHING=${ANYTHING:-120}
 PICTURED=${PICTURED:-1000000}
 example=$(realpath "$here/../example")
-folders=$(mktemp -d)
-trap 'jobs -pr | xargs -r kill 2>/dev/null; rm -rf "$folders"' EXIT
+folders=$(mktemp -d) || exit 2
+trap 'jobs -pr | xargs -r kill 2>/dev/null; wait; rm -rf "$folders"' EXIT
 ulimit -c 0
 export LC_ALL=C
-unset TMX_EXPLAIN
 
 passed=0
 failed=0
@@ -188,5 +188,6 @@ done
 for group in $groups; do
     try_group "$group"
 done
+[ $((passed + failed + skipped)) != 0 ] || no "no group is tried"
 say_counts
 [ $failed = 0 ]

@@ -10,11 +10,12 @@
 #
 # Prints a line for each block, and a count at the end. The status is 0 where none failed. KEEP=1 keeps the folder in which they ran.
 set -u
+unset CDPATH
 here=$(cd "$(dirname "$0")/.." && pwd)
 page=$here/docs/RECIPES.md
 tmx=$(realpath "${1:?the path of the program tmx is missing}")
 shift
-folder=$(mktemp -d)
+folder=$(mktemp -d) || exit 2
 [ -n "${KEEP:-}" ] || trap 'rm -rf "$folder"' EXIT
 mkdir "$folder/bin" "$folder/blocks" "$folder/work"
 ln -s "$tmx" "$folder/bin/tmx"
@@ -72,10 +73,13 @@ wanted() {
 
 # Runs a block; what it prints has to be what the page says.
 run_block() {
-    local name=$1 block=$2
+    local name=$1 block=$2 status
     timeout 300 bash "$block.sh" >"$block.found" 2>&1 </dev/null
-    if [ $? = 124 ]; then
+    status=$?
+    if [ $status = 124 ]; then
         echo "FAILED: $name: it took more than 300 seconds"
+    elif [ $status -gt 124 ]; then
+        echo "FAILED: $name: status $status"
     elif [ ! -e "$block.out" ]; then
         echo "FAILED: $name: the page doesn't say what comes out"
     elif cmp -s "$block.out" "$block.found"; then
@@ -109,6 +113,11 @@ run_section() {
 }
 
 cut_page
+for word in "$@"; do
+    grep -qiF -- "$word" "$folder"/blocks/*.heading && continue
+    echo "FAILED: no heading has $word"
+    failed=$((failed + 1))
+done
 for heading in "$folder"/blocks/*.heading; do
     section=$(basename "$heading" .heading)
     ! wanted "$section" "$@" || run_section "$section"

@@ -23,7 +23,7 @@ killed() {
     rm "$long"
     live_trials killed
     stopped
-    plan $((18 * ROUNDS + 2))
+    plan $((18 * (ROUNDS > 0 ? ROUNDS : 1) + 2))
 }
 
 # The name of a trial, and the words of killed.py from the command on.

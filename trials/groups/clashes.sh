@@ -21,17 +21,12 @@ own_folder() {
     ln -s folder/later own/last
 }
 
-# All that a folder has: names, links, and what files hold.
-folder_state() {
-    (cd "$1" && find . -printf '%p %l\n' -type f -exec cksum {} \; | sort)
-}
-
 # The name of a trial, the line that is wanted, and a command that is refused: nothing in the folder is made or changed.
 clash() {
     own_folder
-    folder_state own >before
+    stands own >before
     gives "$1" 1 "$2" "$3"
-    tell "$1: nothing is touched" "$(folder_state own | diff before - 2>&1)"
+    tell "$1: nothing is touched" "$(stands own | diff before - 2>&1)"
 }
 
 # Likewise for split, which may have made files of other applications by then: what is read is as it was.

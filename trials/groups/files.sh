@@ -54,10 +54,13 @@ files() {
     gives "definition: a folder" 1 "tmx: split: failed" "$tmx fields --settings $s --definition split --apid 1 $rec"
     gives "checkpoint: a folder" 1 "tmx: split: failed" "$packets --resume split $rec"
     gives "settings: missing" 1 "tmx: no\\x0afile\\xc3\\xa9: failed" "$tmx packets --settings \$'no\nfile\xc3\xa9' $rec"
+    rm r
+    gives "files that are made under umask 027" 0 "" "umask 027; $split --report r --checkpoint c $rec"
+    tell "files that are made under umask 027: the rights of new files" "$(find r c split/*.pkt ! -perm 640 2>&1)"
     nested_settings
     altered_checkpoints
     two_checkpoints
-    plan 95
+    plan 97
 }
 
 # Settings that are as deep or as many as 1 MiB allows.

@@ -9,15 +9,18 @@ copy_tree() {
     cp "$here/../crates/tm_arguments/src/table.rt" tree/crates/tm_arguments/src
 }
 
-# All that stands in a folder: modes, names and sums of files.
+# All that stands in a folder: modes, names, links and sums of files.
 stands() {
-    (cd "$1" && find . -printf '%m %y %p\n' | sort -k 3 && find . -type f -exec sha256sum {} + | sort -k 2)
+    (set -o pipefail
+        cd "$1" && find . -printf '%m %y %p %l\n' | sort -k 3 && find . -type f -exec sha256sum {} + | sort -k 2) || no "$1 can't be read"
 }
 
 # What is wrong with the program below a prefix, on the example there.
 runs_there() {
     local page=share/doc/tmx/example
-    (cd "$1" && ./bin/tmx packets --settings $page/settings.toml --report "$folder/r" $page/pass.rec) 2>&1 | cmp - expected/packets 2>&1
+    (cd "$1" && ./bin/tmx packets --settings $page/settings.toml --report "$folder/r" $page/pass.rec) >given 2>&1 || echo "status $?"
+    cmp given expected/packets 2>&1
+    cmp r expected/report 2>&1
 }
 
 # The links of the pages below a folder that lead nowhere.
@@ -276,7 +279,7 @@ as_packages() {
 # The package for Debian.
 of_debian() {
     tell "the package's fields" "$(dpkg-deb -f "$1" Package Version Depends Maintainer 2>&1 |
-        grep -vE "^(Package: tmx|Version: $version-1|Depends: libc6 \(>= 2\.[0-9]+\)(, [a-z0-9.+-]+)*|Maintainer: .+ <.+>)$")"
+        grep -cE "^(Package: tmx|Version: $version-1|Depends: libc6 \(>= 2\.[0-9]+\)(, [a-z0-9.+-]+)*|Maintainer: .+ <.+>)$" | grep -vx 4)"
     dpkg-deb -x "$1" root
     tell "the program of the package runs" "$(runs_there root/usr)"
     page_is_read "the manual page of the package can be read" root/usr/share/man/man1/tmx.1.gz
@@ -294,13 +297,14 @@ of_debian() {
 # What is wrong with the picture of the example that this program in Python draws, of the package.
 drawn_by() {
     (cd / && env -u TMX PATH="$folder/root/usr/bin:$PATH" PYTHONPATH="$folder/root/usr/lib/python3/dist-packages" \
-        python3 -B "$@" --title "The example recording" --settings "$s" "$rec") 2>&1 | cmp - "$here/../docs/loss_map.svg" 2>&1
+        python3 -B "$@" --title "The example recording" --settings "$s" "$rec") >given 2>&1 || echo "status $?"
+    cmp given "$here/../docs/loss_map.svg" 2>&1
 }
 
 # The package for Debian with the package for Python, beside the program of the other.
 with_python() {
     tell "the fields of the package for Python" "$(dpkg-deb -f "$1" Package Version Architecture Depends 2>&1 |
-        grep -vxE "Package: python3-tmx|Version: $version-1|Architecture: all|Depends: python3 \(>= 3\.11\), tmx \(= $version-1\)")"
+        grep -cxE "Package: python3-tmx|Version: $version-1|Architecture: all|Depends: python3 \(>= 3\.11\), tmx \(= $version-1\)" | grep -vx 4)"
     dpkg-deb -x "$1" root
     tell "python3 -m tmx of the package" "$(drawn_by -m tmx map)"
     tell "tmx-map of the package" "$(drawn_by "$folder/root/usr/bin/tmx-map")"

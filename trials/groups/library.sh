@@ -116,13 +116,19 @@ library_examples() {
     fi
 }
 
+# Whether a compiler makes an empty program with these flags.
+compiles() {
+    "$@" -x c -o empty - <<<"int main(void) { return 0; }" 2>/dev/null
+}
+
 # Calls over memory that is just as large as it is said to be, by a sanitizer.
 library_calls() {
     local flags=(-std=gnu11 -g -O1 -pthread -I "$here/../include") seen=(-fsanitize=address,undefined -fno-sanitize-recover=all) size
     gcc "${flags[@]}" -o calls "$here/library.c" library/libtmx.a 2>made || cat made
-    if [ -e calls ] && ! gcc "${flags[@]}" "${seen[@]}" -o calls_seen "$here/library.c" library/libtmx.a 2>made; then
+    if ! compiles gcc "${seen[@]}"; then
         skip 5 "calls over memory that is just as large as it is said to be" "no AddressSanitizer"
     else
+        gcc "${flags[@]}" "${seen[@]}" -o calls_seen "$here/library.c" library/libtmx.a 2>made || cat made
         for size in 1115 100000; do
             tell "rooms of just enough octets, in chunks of $size" "$(differs ./calls_seen chunks $size)"
         done
@@ -145,7 +151,8 @@ library_jobs() {
     says "each request of tmx_run for memory is refused" ./jobs refused_calls "$s" "$rec"
     says "calls of tmx_run between pages that nobody may touch" ./jobs guarded_calls "$s" "$rec"
     says "calls of tmx_run in threads" ./jobs threads_calls "$s" "$rec"
-    if clang "${flags[@]}" -fsanitize=thread -o jobs_seen "$here/jobs.c" library/libtmx.a 2>made; then
+    if compiles clang -fsanitize=thread; then
+        clang "${flags[@]}" -fsanitize=thread -o jobs_seen "$here/jobs.c" library/libtmx.a 2>made || cat made
         says "jobs in threads under ThreadSanitizer" ./jobs_seen threads "$s" "$rec"
         says "calls of tmx_run in threads under ThreadSanitizer" ./jobs_seen threads_calls "$s" "$rec"
     else

@@ -35,7 +35,7 @@ int posix_memalign(void **found, size_t border, size_t octets) {
     return 0;
 }
 END
-    cc -O1 -fno-builtin -shared -fPIC -Wl,-z,defs -o refused.so refused.c 2>/dev/null
+    cc -O1 -fno-builtin -shared -fPIC -Wl,-z,defs -o refused.so refused.c
 }
 
 low_memory() {
@@ -48,10 +48,11 @@ low_memory() {
     # guards: each-step-has-only-its-own-faults
     local run
     plan 13
-    if ! command -v cc >/dev/null || ! refusing_library; then
+    if ! command -v cc >/dev/null || ! getconf GNU_LIBC_VERSION >/dev/null 2>&1; then
         skip 13 "each request for memory refused" "no C compiler, or no glibc"
         return
     fi
+    refusing_library 2>made || { no "the library that refuses memory is made: $(head -c 300 made)"; return; }
     names
     for run in frames packets binary_packets extract split waiting fields binary_fields summary help unknown missing clash; do
         says "each request for memory of $run refused" \

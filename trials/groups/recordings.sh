@@ -152,8 +152,8 @@ record_length() {
 
 # Random recordings under the settings of these names, in a folder of their own.
 random_recordings() {
-    local name octets seed kind record most
-    cd "$(mktemp -d -p .)" || exit 2
+    local name octets seed kind record most place
+    { place=$(mktemp -d -p .) && cd "$place"; } || exit 2
     echo "plan $((20 * $#))"
     make_settings
     for name in "$@"; do

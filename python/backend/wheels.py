@@ -68,11 +68,13 @@ def write_wheel(folder: str, files: dict[str, bytes], platform: str = "any", pro
     record = "".join(f"{name},sha256={digest(octets)},{len(octets)}\n" for name, octets in files.items())
     files[f"{INFO}/RECORD"] = f"{record}{INFO}/RECORD,,\n".encode()
     wheel = f"{NAME}-{tag}.whl"
-    with zipfile.ZipFile(Path(folder, wheel), "w", zipfile.ZIP_DEFLATED) as archive:
+    beside = Path(folder, f"{wheel}.new")
+    with zipfile.ZipFile(beside, "w", zipfile.ZIP_DEFLATED) as archive:
         for name, octets in files.items():
             info = zipfile.ZipInfo(name, EPOCH)
             info.external_attr = PROGRAM if name in programs else REGULAR
             archive.writestr(info, octets, zipfile.ZIP_DEFLATED)
+    beside.replace(Path(folder, wheel))
     return wheel
 
 

@@ -213,6 +213,8 @@ try_rules() {
     done
     rules/hostile.sh "$tmx" ' ' >said 2>&1
     tell_failed "trials of no group" "$(ended $? said)"
+    ANYTHING=0 "$here/hostile.sh" "$tmx" anything >said 2>&1
+    tell_failed "the group anything in no time" "$(ended $? said)"
 }
 
 # What goes wrong in a copy of ./test, where all that it runs is a stub: the program to put in the place of a stub, from standard input. For that
@@ -272,8 +274,8 @@ for group in "$@"; do
     fi
 done
 try_groups "${groups[@]}"
-# 19 rules, 22 ends of ./test, and the cases of all groups.
-planned=$((19 + 22 + $(for group in "$@"; do cases_of "$group"; done | wc -w)))
+# 20 rules, 22 ends of ./test, and the cases of all groups.
+planned=$((20 + 22 + $(for group in "$@"; do cases_of "$group"; done | wc -w)))
 tried=$((passed + failed + skipped))
 tell "all of it is tried" "$([ $tried = $planned ] || echo "$tried trials are made, and $planned planned")"
 echo "$passed ok, $failed failed, $skipped skipped"

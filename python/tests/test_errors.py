@@ -99,6 +99,14 @@ class Refused(TestCase):
         for name in ("day.chk", "new.chk"):
             self.raises(tmx.FileError, "failed", lambda: list(recording.packets(checkpoint=name, report=name)))
         self.raises(tmx.FileError, "failed", tmx.cut("a.rec", length=256).write, "b.rec")
+        for given, option in product((file, tmx.cut("a.rec", length=256), tmx.cut(file, length=256)), ("report", "checkpoint")):
+            recording, how = tmx.Recording(given, "a.toml"), {option: "b.rec"}
+            self.raises(tmx.FileError, "failed", recording.extract, "b.rec")
+            self.raises(tmx.FileError, "failed", recording.extract, "new.pkt", **how)
+            self.raises(tmx.FileError, "failed", recording.split, ".", **how)
+            self.raises(tmx.FileError, "failed", recording.fields, ATTITUDE, 101, **how)
+            self.raises(tmx.FileError, "failed", lambda: list(recording.packets(**how)))
+            self.raises(tmx.FileError, "failed", recording.tables, {101: ATTITUDE}, report={101: "b.rec"})
         self.assertEqual({it.name: it.read_bytes() for it in self.folder.iterdir()}, files)
 
     def test_devices(self) -> None:

@@ -43,6 +43,12 @@ class Skipped(TestCase):
         long = tmx.Recording(io.BytesIO(stamped()[0] * 3), tmx.Settings(42, LENGTH, True, 10, 3)).skipped()  # is read in parts
         self.assertEqual((list(long["before"]), list(long["after"])), (befores * 3, afters * 3))
 
+    def test_other_calls_meanwhile(self) -> None:
+        recording = example()
+        frames = list(recording.frames())
+        self.assertEqual([recording.summary() for _ in recording.skipped(blocks=150)], [recording.summary()] * 2)
+        self.assertEqual([frame for frame, _ in zip(recording.frames(), recording.skipped(blocks=1))], frames)
+
     def test_times_of_receipt(self) -> None:
         for recording in self.recordings(tmx.Settings(42, LENGTH, True, 10, 3)):
             table = recording.skipped(blocks=100)

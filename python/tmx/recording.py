@@ -296,7 +296,7 @@ class Recording:
         single: dict[str, Mapping[int, Any]] = {"arrays": arrays or {}, "rest": rest or {}, "report": report or {}}
         if others := {apid for it in single.values() for apid in it} - set(wanted):
             raise ValueError(f"{numbered('application', others)} without a definition")
-        for one, other in combinations(single["report"].values(), 2):
+        for one, other in combinations((*single["report"].values(), self.source.file), 2):
             refuse_to_overwrite(one, other)
 
         def reader(apid: int) -> Read:

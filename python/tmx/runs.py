@@ -14,11 +14,11 @@ from dataclasses import dataclass, replace
 from types import TracebackType
 from typing import IO, Literal, Self
 
-from .errors import DisagreementError, Error, ProgramError, ProgramMissingError, error_of, told
+from .errors import DisagreementError, Error, ProgramError, ProgramMissingError, error_of, told, word_behind
 from .programs import program
 from .progress import SECONDS, Progress, Show, showing
 from .settings import Settings, settings_file
-from .source import Source
+from .source import Source, refuse_to_overwrite
 
 BLOCK = 1 << 16  # octets that are read at once
 PIPE = 1 << 20  # octets that a pipe holds, where the system lets it
@@ -320,7 +320,13 @@ class Runs:
 def running(
     source: Source, settings: str | os.PathLike[str] | Settings, *commands: Command, progress: Progress = False
 ) -> Iterator[Runs]:
-    """Runs of these commands over a recording, side by side, with these settings."""
+    """Runs of these commands over a recording, side by side, with these settings.
+
+    Raises FileError where they would write over a recording that has no name for the program, which looks at the others.
+    """
+    for name in (word_behind(it, command.words) for command in commands for it in ("--report", "--checkpoint")):
+        if name is not None and source.path is None:
+            refuse_to_overwrite(name, source.file)
     with settings_file(settings) as name, showing(progress, source.length()) as show:
         named = [replace(it, words=[*it.words, "--settings", name]) for it in commands]
         try:

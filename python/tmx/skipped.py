@@ -45,8 +45,8 @@ class Octets:
 
 
 def records_of(source: Source, length: int, progress: Progress) -> Iterator[bytes]:
-    """The whole records of a recording."""
-    rest = b""
+    """The whole records of a recording.  Other calls may read a file meanwhile."""
+    source, rest = source if source.path is None else Source(source.path), b""
     source.open_stream()
     try:
         with showing(progress, source.length()) as show:

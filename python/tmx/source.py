@@ -35,9 +35,11 @@ class Source:
 
     @property
     def file(self) -> str | int | None:
-        """The file that is read, by its name or its descriptor; None where there is none."""
+        """The file that is read, by its name or its descriptor; None where there is none.  Of a `Cut` it is that of its stream."""
         if self.path is not None:
             return self.path
+        if isinstance(source := getattr(self.given, "source", None), Source):
+            return source.file
         try:
             return int((sys.stdin if self.given == "-" else self.given).fileno())
         except (AttributeError, OSError, ValueError):

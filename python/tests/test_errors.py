@@ -4,6 +4,7 @@ import contextlib
 import io
 import os
 import pickle
+import signal
 import threading
 import unittest
 import warnings
@@ -302,6 +303,11 @@ class Programs(TestCase):
         example().summary()
         example().report()
         self.assertEqual(Path("asked").read_text().split(), ["--version", "summary", "extract"])
+
+    def test_a_status_that_is_lost(self) -> None:
+        self.addCleanup(signal.signal, signal.SIGCHLD, signal.signal(signal.SIGCHLD, signal.SIG_IGN))
+        for call in (tmx.Recording("none", SETTINGS).summary, tmx.program):
+            self.assertIn("SIGCHLD", str(self.raises(tmx.Error, None, call)))
 
     def test_too_old(self) -> None:
         for what in ("unrecognized subcommand 'summary'", "unexpected argument '--settings' found"):

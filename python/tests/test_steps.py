@@ -311,6 +311,18 @@ class Commands(TestCase):
         self.assertIn("growing.rec has fewer records than the steps of steps", self.follow("steps", *fields, 101))
         self.assertEqual({it.name: it.read_bytes() for it in Path("steps").iterdir()}, kept)
 
+    def test_one_makes_steps_at_a_time(self) -> None:
+        self.program('[ "$1" != packets ] || { touch begun; sleep 1; }\nexec "$real" "$@"')
+        Path("growing.rec").write_bytes(OCTETS)
+        first = threading.Thread(target=self.follow, args=["steps"])
+        first.start()
+        while first.is_alive() and not Path("begun").exists():
+            time.sleep(0.01)
+        self.assertIn("tmx follow: steps is in use: another process makes a step in it", self.follow("steps"))
+        first.join()
+        self.assertEqual(sorted(os.listdir("steps")), ["job", *(f"step-0000001.{it}" for it in ("chk", "packets", "report"))])
+        self.assertEqual(self.follow("steps"), "")
+
     def test_what_follow_passes_on(self) -> None:
         why = "the recording growing.rec: no such file; see that the name and the folder are right"
         self.assertEqual(self.follow("steps"), f"tmx: growing.rec: failed\n  {why}\n")

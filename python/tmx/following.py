@@ -1,11 +1,13 @@
 """A growing recording in steps whose outputs are files: what a station's loop leaves, whatever is ended in between."""
 
+import fcntl
 import hashlib
 import os
 import re
 import shutil
 import time
 from collections.abc import Iterator
+from contextlib import contextmanager
 from dataclasses import dataclass
 from pathlib import Path
 
@@ -24,7 +26,7 @@ DIFFERS = {"command": "command", "apid": "application", "definition": "definitio
 
 
 class FolderError(Error):
-    """A folder has steps of another job, or of a recording that isn't this one."""
+    """A folder has steps of another job, or of a recording that isn't this one, or another process makes a step in it."""
 
 
 @dataclass(frozen=True)
@@ -67,14 +69,15 @@ class Step:
             else:
                 file.unlink(missing_ok=True)
 
-    def run(self, recording: Name, settings: Name | Settings, before: Path | None) -> None:
+    def run(self, recording: Name, settings: Name | Settings, before: Path | None, lock: int) -> None:
+        """The program gets the lock, and so holds it to its end, also where this process is killed."""
         words = [*self.wanted.words(), "--report", str(self.report), *step_words(self.checkpoint, before, None)]
         splits = self.wanted.command == "split"
         if splits:
             self.output.mkdir()
             words += ["--dir", str(self.output)]
         with open(os.devnull if splits else self.output, "wb") as out:
-            with running(Source(recording), settings, Command(words, "end", out)) as runs:
+            with running(Source(recording), settings, Command(words, "end", out, gets=[lock])) as runs:
                 runs.finish()
 
 
@@ -92,6 +95,22 @@ def done_in(folder: Name) -> int:
     """How many records the steps of a folder have, which may not be there yet."""
     last = last_step(folder) if os.path.isdir(folder) else 0
     return records_done(Path(folder, f"step-{last:07}.chk")) if last else 0
+
+
+@contextmanager
+def held(folder: Name) -> Iterator[int]:
+    """Locks a folder, so that only one process makes a step in it.  Raises FolderError where another one does."""
+    lock = os.open(folder, os.O_RDONLY)
+    try:
+        try:
+            fcntl.flock(lock, fcntl.LOCK_EX | fcntl.LOCK_NB)
+        except BlockingIOError:
+            raise FolderError(f"{folder} is in use: another process makes a step in it") from None
+        except OSError:
+            pass  # the file system has no locks of folders, as NFS
+        yield lock
+    finally:
+        os.close(lock)
 
 
 def check_folder(recording: Name, length: int, folder: Name, wanted: Wanted) -> None:
@@ -123,19 +142,20 @@ def next_step(recording: Name, settings: Name | Settings, folder: Name, wanted: 
 
     The step has files of its own in the folder: of `packets` `step-0000001.packets`, `.report` and `.chk`, then `step-0000002`
     and so on.  The checkpoint is written last, so a step that has one is whole; one that has none was ended, and is done again.
-    Raises FolderError where the folder has steps of another job, or of another recording.
+    Raises FolderError where the folder has steps of another job, or of another recording, or another process makes one.
     """
     os.makedirs(folder, exist_ok=True)
-    if os.path.isfile(recording):
-        check_folder(recording, record_length(settings), folder, wanted)
-    last = last_step(folder)
-    before = Path(folder, f"step-{last:07}.chk") if last else None
-    step = Step(folder, last + 1, wanted)
-    step.remove()
-    step.run(recording, settings, before)
-    if records_done(step.checkpoint) > (records_done(before) if before else 0):
-        return step.checkpoint
-    step.remove()
+    with held(folder) as lock:
+        if os.path.isfile(recording):
+            check_folder(recording, record_length(settings), folder, wanted)
+        last = last_step(folder)
+        before = Path(folder, f"step-{last:07}.chk") if last else None
+        step = Step(folder, last + 1, wanted)
+        step.remove()
+        step.run(recording, settings, before, lock)
+        if records_done(step.checkpoint) > (records_done(before) if before else 0):
+            return step.checkpoint
+        step.remove()
     return None
 
 

@@ -10,7 +10,7 @@ from functools import cache
 from pathlib import Path
 from typing import NoReturn
 
-from .errors import ProgramMissingError, VersionError, error_of
+from .errors import Error, ProgramMissingError, VersionError, error_of
 
 VERSION = "0.1.0"  # of this package, and of the program that it runs
 BESIDE = Path(__file__).resolve().parent / "bin" / "tmx"  # where a wheel with the program has it
@@ -39,7 +39,12 @@ def find_program() -> Program:
 
 
 def program() -> Program:
-    """The program that this package runs.  Raises ProgramMissingError, and VersionError where it is of another version."""
+    """The program that this package runs.  Raises ProgramMissingError, and VersionError where it is of another version.
+
+    Raises Error where the signal SIGCHLD is ignored: the system tells no status of a program then.
+    """
+    if signal.getsignal(signal.SIGCHLD) == signal.SIG_IGN:
+        raise Error("SIGCHLD is ignored, so the program's status would be lost: set it to signal.SIG_DFL")
     found = find_program()
     status = os.stat(found.path)
     check_version(found.path, status.st_mtime_ns, status.st_ino)

@@ -112,6 +112,10 @@ class Chosen(TestCase):
             self.raises(ValueError, None, tmx.cut, RECORDING, "1ACF", length, flips)
         for length, flips in ((5.0, 0), (5, "0"), (True, 0)):
             self.raises(TypeError, None, tmx.cut, RECORDING, "1ACF", length, flips)
+        for marker in (0x1ACFFC1D, 4, True, Number(4)):
+            error = self.raises(TypeError, None, tmx.cut, RECORDING, marker, 5)
+            self.assertIn("the marker takes octets or hexadecimal, and not ", str(error))
+        self.assertEqual(tmx.cut(RECORDING, [0x1A, 0xCF], 5).marker, b"\x1a\xcf")
 
 
 class Epochs(TestCase):

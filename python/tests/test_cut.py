@@ -162,6 +162,16 @@ class Cut(TestCase):
         cut = tmx.cut(io.BytesIO(stream), length=256)
         self.assertEqual([Path("cut.rec").read_bytes(), cut.read(1000) + cut.read()], [octets] * 2)
 
+    def test_what_is_left(self) -> None:
+        records = records_of(9, 100, 11)
+        stream = stream_of(records)
+        octets = b"".join(records)
+        cut = tmx.cut(io.BytesIO(stream), MARKER, 100)
+        self.assertEqual([next(iter(cut)), next(iter(cut)), cut.read(110)], [*records[:2], octets[200:310]])
+        self.assertEqual(next(iter(cut)), records[3][10:])
+        cut.write("left.rec")
+        self.assertEqual((Path("left.rec").read_bytes(), list(cut), cut.read(), cut.records), (octets[400:], [], b"", 9))
+
     def test_the_command(self) -> None:
         records = records_of(9, 100, 8)
         Path("raw").write_bytes(b"noise" + stream_of(records))

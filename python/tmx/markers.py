@@ -1,7 +1,7 @@
 """Raw streams with sync markers, cut into records of one length."""
 
 import os
-from collections import Counter
+from collections import Counter, deque
 from collections.abc import Iterator
 from dataclasses import dataclass
 from typing import IO
@@ -101,11 +101,17 @@ class Cut:
         self.window = Window(source)
         self.at = 0  # where the next record is looked for
         self.found = self.cut()
-        self.rest = b""
+        self.kept: deque[bytes] = deque()  # what was found and not yet given: records, the first of which may be begun
 
     def __iter__(self) -> Iterator[bytes]:
-        for run in self.found:
-            yield from run
+        """The records that are left.  The first is what `read` has left of it."""
+        while self.kept or self.find():
+            yield self.kept.popleft()
+
+    def find(self) -> bool:
+        """Looks for more records; whether there are some."""
+        self.kept.extend(next(self.found, ()))
+        return bool(self.kept)
 
     @property
     def distance(self) -> int | None:
@@ -117,17 +123,15 @@ class Cut:
 
         Waits for no second record: what a slow stream has brought is given at once.  Without a number it gives all there are.
         """
-        parts, there = [self.rest], len(self.rest)
-        while most < 0 or there < most and (not there or self.is_at_hand()):
-            run = next(self.found, None)
-            if run is None:
-                break
-            parts += run
-            there += len(run) * self.length
-        octets = b"".join(parts)
-        end = there if most < 0 else most
-        self.rest = octets[end:]
-        return octets[:end]
+        parts, there = [], 0
+        while there != most and (self.kept or (most < 0 or not there or self.is_at_hand()) and self.find()):
+            part = self.kept.popleft()
+            if 0 <= most < there + len(part):
+                self.kept.appendleft(part[most - there :])
+                part = part[: most - there]
+            parts.append(part)
+            there += len(part)
+        return b"".join(parts)
 
     def is_at_hand(self) -> bool:
         """Whether the next record and the marker behind it were read already."""
@@ -255,7 +259,9 @@ def pseudo_random(length: int) -> bytes:
 
 
 def octets_of(marker: str | bytes) -> bytes:
-    """The octets of a sync marker.  Raises ValueError where it has none."""
+    """The octets of a sync marker.  Raises ValueError where it has none, and TypeError where it is a number."""
+    if not hasattr(marker, "__len__"):
+        raise TypeError(f"the marker takes octets or hexadecimal, and not {marker!r}")
     try:
         octets = bytes.fromhex(marker) if isinstance(marker, str) else bytes(marker)
     except ValueError:
@@ -285,7 +291,7 @@ def cut(
 
     Gives the records without their markers, so `skip_before` is not needed for them: `tmx.Recording(tmx.cut(..), settings)`
     reads them.  It can't mend streams that lost or gained bits.  Raises ValueError where the marker isn't hexadecimal or a number is
-    out of its range, and TypeError where a number is none.
+    out of its range, and TypeError where a number is none, or the marker is one.
     """
     octets = octets_of(marker)
     long, wrong = number("length", length, LENGTHS), number("flips", flips, range(2 * len(octets) + 1))

@@ -5,6 +5,8 @@ import io
 import os
 import pickle
 import signal
+import subprocess
+import sys
 import threading
 import unittest
 import warnings
@@ -12,7 +14,7 @@ from itertools import accumulate, product
 from pathlib import Path
 from unittest import mock
 
-from support import ATTITUDE, PROGRAM, RECORDING, SETTINGS, TestCase, command, example, tmx
+from support import ATTITUDE, PACKAGE, PROGRAM, RECORDING, SETTINGS, TestCase, command, example, tmx
 
 from tmx import __main__ as commands
 from tmx import errors, programs
@@ -140,6 +142,31 @@ class Commands(TestCase):
             self.assertEqual(said.getvalue(), f"{says}\n")
         found = command("map", "--settings", SETTINGS, RECORDING, out="/dev/full")
         self.assertEqual(found, (1, "tmx map: standard output: No space left on device\n"))
+
+
+    def closed(self, streams: str, *words: object, out: str = "out") -> tuple[int, str]:
+        """The status of a command, some of whose standard streams are closed, and what it says on standard error."""
+        line = ["sh", "-c", f'exec "$@" >{out} 2>said {streams}', "sh", sys.executable, "-m", "tmx", *map(str, words)]
+        ran = subprocess.run(line, env=os.environ | {"PYTHONPATH": str(PACKAGE)}, timeout=60, check=False)
+        return ran.returncode, Path("said").read_text()
+
+    def test_closed_streams(self) -> None:
+        for name, *words in (["probe"], ["cut", "--length", 9], *([it, "--settings", SETTINGS] for it in ("report", "map", "watch"))):
+            status, said = self.closed("<&-", name, *words, "-")
+            self.assertEqual((status, said), (1, f"tmx {name}: {'-' if name == 'watch' else 'standard input'}: Bad file descriptor\n"))
+        self.assertEqual(self.closed("<&-", "map", "-", RECORDING), (1, "tmx map: standard input: Bad file descriptor\n"))
+        octets = RECORDING.read_bytes()
+        Path("watched").write_bytes(octets)
+        status, said = self.closed(">&-", "watch", "--settings", SETTINGS, "--out", "packets", "watched")
+        self.assertEqual((status, said), (1, "tmx watch: standard output: Bad file descriptor\n"))
+        example().extract("wanted")
+        self.assertTrue(Path("wanted").read_bytes().startswith(Path("packets").read_bytes()))
+        Path("raw").write_bytes(b"".join(b"x\x1a\xcf\xfc\x1d" + octets[at : at + 256] for at in range(0, len(octets), 256)))
+        wanted = b"".join(tmx.cut("raw", length=256))
+        self.assertEqual(self.closed("2>&-", "cut", "--length", 256, "raw")[0], 0)
+        self.assertEqual((Path("out").read_bytes(), bool(wanted)), (wanted, True))
+        with mock.patch.object(sys, "stdin", None):
+            self.raises(OSError, None, tmx.Recording("-", SETTINGS).summary)
 
 
 class Reasons(TestCase):

@@ -33,6 +33,17 @@ def put(octets: bytes) -> None:
         raise OSError(error.errno, error.strerror, "standard output") from None
 
 
+def hold_streams() -> None:
+    """Has no file take the number of a standard stream that is closed.  Reading 0 and writing 1 still fail."""
+    for number, mode in enumerate((os.O_WRONLY, os.O_RDONLY, os.O_WRONLY)):
+        try:
+            os.fstat(number)
+        except OSError:
+            os.open(os.devnull, mode)
+    if sys.stderr is None:
+        sys.stderr = open(2, "w", errors="backslashreplace")
+
+
 def say(lines: Iterable[str]) -> None:
     put("".join(f"{it}\n" for it in lines).encode())
 
@@ -260,6 +271,7 @@ def reason(error: Exception) -> str:
 
 def perform(words: argparse.Namespace, parser: argparse.ArgumentParser) -> int:
     """Runs the command of these words, and answers the status."""
+    hold_streams()
     try:
         with warnings.catch_warnings():
             warnings.showwarning = lambda warning, *_: print(f"tmx {words.command}: {warning}", file=sys.stderr)

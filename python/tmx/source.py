@@ -1,5 +1,6 @@
 """Where the octets of a recording come from: a file, or a stream that is read from its beginning to its end."""
 
+import errno
 import io
 import os
 import stat
@@ -74,6 +75,8 @@ class Source:
             return
         if self.was_read and self.beginning is None:
             raise ConsumedError("the recording is a stream that can be read only once, and was read already")
+        if self.given == "-" and sys.stdin is None:  # it is closed
+            raise OSError(errno.EBADF, os.strerror(errno.EBADF), "standard input")
         self.stream = sys.stdin.buffer if self.given == "-" else self.given
         if self.beginning is not None:
             self.stream.seek(self.beginning)

@@ -143,6 +143,25 @@ class Commands(TestCase):
         found = command("map", "--settings", SETTINGS, RECORDING, out="/dev/full")
         self.assertEqual(found, (1, "tmx map: standard output: No space left on device\n"))
 
+    def test_words_that_are_refused(self) -> None:
+        rules = ["--settings", SETTINGS]
+        for words, says in (
+            *((["follow", *rules, "--interval", it, RECORDING, "steps"], "--interval takes seconds from 0 to ") for it in ("-1", "nan", "1e300")),
+            (["follow", *rules, "", "steps"], "the recording has no name"),
+            (["watch", *rules, ""], "the recording has no name"),
+            (["report", *rules, "--receipt", "0:cds8", "--epoch", "0001-01-01T00:00+10:00", RECORDING], ""),
+        ):
+            status, said = command(*words)
+            self.assertEqual((status, said.splitlines()[-1].partition("error: ")[2].startswith(says)), (2, True), said)
+        self.assertFalse(os.path.exists("steps"))
+        for interval in (-1, float("nan"), 1e300):
+            self.raises(ValueError, None, example().follow, interval=interval)
+
+    def test_names_that_are_no_text(self) -> None:
+        name = os.fsdecode(b"\xff.chk")
+        list(example().packets(checkpoint=name))
+        self.assertEqual(command("cut-back", name, out="out"), (0, ""))
+        self.assertEqual(Path("out").read_bytes(), b"\xff.chk has 300 records\n")
 
     def closed(self, streams: str, *words: object, out: str = "out") -> tuple[int, str]:
         """The status of a command, some of whose standard streams are closed, and what it says on standard error."""

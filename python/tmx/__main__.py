@@ -9,6 +9,7 @@ import warnings
 from collections.abc import Callable, Iterable
 
 from . import xtce
+from .arguments import seconds
 from .checkpoints import cut_back, records_done
 from .errors import Error, ProgramError
 from .following import OUTPUTS, Wanted, done_in, losses, next_step, steps
@@ -45,7 +46,7 @@ def hold_streams() -> None:
 
 
 def say(lines: Iterable[str]) -> None:
-    put("".join(f"{it}\n" for it in lines).encode())
+    put("".join(f"{it}\n" for it in lines).encode("utf-8", "surrogateescape"))
 
 
 # The commands.
@@ -92,10 +93,16 @@ def follow_recording(words: argparse.Namespace, parser: argparse.ArgumentParser)
     if words.once:
         next_step(words.recording, words.settings, words.folder, wanted)
         return
+    if not words.recording:
+        parser.error("the recording has no name")
+    try:
+        interval = seconds("--interval", words.interval)
+    except ValueError as error:
+        parser.error(str(error))
     if not os.path.exists(words.recording):
         print(f"tmx follow: {words.recording} isn't there yet", file=sys.stderr)
     done, since = done_in(words.folder), time.monotonic()
-    for step in steps(words.recording, words.settings, words.folder, wanted, words.interval):
+    for step in steps(words.recording, words.settings, words.folder, wanted, interval):
         records, now = records_done(step), time.monotonic()
         rate, at = (records - done) / max(now - since, 1e-3), time.strftime("%FT%TZ", time.gmtime())
         say([f"{step} has {records} records; at {at} {rate:.0f} a second, {losses(step.with_suffix('.report'))}"])
@@ -194,7 +201,7 @@ def report_words(parser: argparse.ArgumentParser) -> None:
 def write_report(words: argparse.Namespace, parser: argparse.ArgumentParser) -> None:
     try:
         times = times_wanted(words.receipt, words.time, words.definition, words.apid, words.channel, words.epoch)
-    except ValueError as error:
+    except (ValueError, OverflowError) as error:
         parser.error(str(error))
     asked = Asked(words.title, words.station, words.pass_, words.report, times)
     found, svg = find(words.recording, words.settings, asked)
@@ -233,6 +240,8 @@ def watch_words(parser: argparse.ArgumentParser) -> None:
 def watch_recording(words: argparse.Namespace, parser: argparse.ArgumentParser) -> int:
     if not words.every > 0:
         parser.error("--every takes a number over 0")
+    if not words.recording:
+        parser.error("the recording has no name")
     wanted = Watched(words.recording, words.settings, words.every, words.out, words.report)
     output: Output = Screen(put) if is_terminal() else Log(put)
     try:

@@ -8,6 +8,7 @@ Number = SupportsIndex
 Numbers = SupportsIndex | Iterable[SupportsIndex] | None
 
 APPLICATIONS, CHANNELS, RECORDS = range(2048), range(8), range(1, 1 << 32)
+LONGEST_WAIT = 1_000_000_000  # seconds
 
 
 def number(what: str, value: Any, among: range) -> int:
@@ -35,3 +36,10 @@ def numbers(what: str, values: Any, among: range) -> frozenset[int] | None:
     except TypeError:
         several = [values]
     return frozenset(number(what, it, among) for it in several)
+
+
+def seconds(what: str, value: float) -> float:
+    """How long to wait.  Raises ValueError where nobody can wait so long."""
+    if not 0 <= value <= LONGEST_WAIT:
+        raise ValueError(f"{what} takes seconds from 0 to {LONGEST_WAIT}, and not {value}")
+    return value

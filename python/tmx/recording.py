@@ -7,7 +7,7 @@ from contextlib import ExitStack
 from itertools import combinations
 from typing import IO, Any, overload
 
-from .arguments import APPLICATIONS, CHANNELS, RECORDS, Number, Numbers, number, numbers
+from .arguments import APPLICATIONS, CHANNELS, RECORDS, Number, Numbers, number, numbers, seconds
 from .checkpoints import Name, NewFile
 from .errors import ProgramMissingError, RunError
 from .fields import Fields, Table, read_tables, time_of
@@ -154,7 +154,7 @@ class Recording:
 
         A stream is followed to its end, and read from its beginning, also where a job goes on.  The recording is not closed.
         """
-        return follow(Job(self.source, self.settings, chosen(apid, channel), checkpoint=checkpoint), interval, timeout)
+        return follow(Job(self.source, self.settings, chosen(apid, channel), checkpoint=checkpoint), seconds("interval", interval), timeout)
 
     def report(self, *, progress: Progress = False) -> list[Item]:
         """What is bad or lost, in the program's order."""

@@ -107,6 +107,19 @@ class Chosen(TestCase):
         self.assertEqual(settings, tmx.Settings(42, 256, True, channels=(0, 3)))
         self.assertEqual(len({settings, tmx.Settings(42, 256, True, channels=range(0, 4, 3))}), 1)
 
+    def test_recordings(self) -> None:
+        for given in (b"pass.rec", bytearray(b"octets"), 5, None):
+            for call in (tmx.probe, tmx.cut, lambda it: tmx.Recording(it, SETTINGS)):
+                error = self.raises(TypeError, None, call, given)
+                self.assertEqual(str(error), f"a recording is the name of a file, or a binary stream, and not {type(given).__name__}")
+
+    def test_an_error_of_the_caller(self) -> None:
+        def failing():
+            yield 100
+            raise TypeError("the caller's own")
+
+        self.assertEqual(str(self.raises(TypeError, None, example().packets, failing())), "the caller's own")
+
     def test_raw_streams(self) -> None:
         for length, flips in ((0, 0), (-5, 0), (5, -1), (5, 16)):
             self.raises(ValueError, None, tmx.cut, RECORDING, "1ACF", length, flips)

@@ -116,7 +116,8 @@ class Refused(TestCase):
         self.raises(tmx.RunError, "read failed", tmx.Recording(self.folder, SETTINGS).summary)
         self.raises(tmx.RunError, "write failed", example().extract, "/dev/full")
         self.raises(tmx.RunError, "report failed", lambda: list(example().packets(report="/dev/full")))
-        self.raises(TypeError, None, tmx.Recording(io.StringIO("text"), SETTINGS).summary)
+        for text in (io.StringIO("text"), self.enterContext(open(RECORDING, encoding="utf-8"))):
+            self.raises(TypeError, None, tmx.Recording(text, SETTINGS).summary)
 
     def test_errors_go_by_pickle(self) -> None:
         error = self.raises(tmx.FileError, "failed", tmx.Recording("none", SETTINGS).summary)

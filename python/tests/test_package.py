@@ -90,6 +90,10 @@ class Descriptors(TestCase):
             packets.close()
             recording.report()
             self.assertEqual(len(os.listdir("/proc/self/fd")), before)
+        for words in ((RECORDING, "no\0name"), ("no\ud800", SETTINGS)):
+            with self.assertRaises(ValueError):
+                tmx.Recording(*words).summary()
+            self.assertEqual(len(os.listdir("/proc/self/fd")), before)
 
 
 class TheSettings(TestCase):

@@ -112,10 +112,20 @@ class Whole(TestCase):
     def test_a_file_has_its_name_when_it_is_whole(self) -> None:
         self.program('"$real" "$@"; status=$?; ls -A >there; exit $status')
         example().extract("out", checkpoint="chk", report="report")
-        there = [it.partition(".")[2].partition(".")[0] for it in Path("there").read_text().split() if it[0] == "."]
-        self.assertEqual(sorted(there), ["chk", "out"])
+        there = Path("there").read_text().split()
+        self.assertEqual(([it[:5] for it in there if it[0] == "."], {"chk", "out"} & set(there)), ([".tmx-"] * 2, set()))
         self.assertEqual(sorted(self.stands()), ["chk", "out", "report", "there"])
         self.assertEqual((Path("out").read_bytes(), tmx.records_done("chk")), (self.wanted(), 300))
+
+    def test_what_an_ended_program_leaves(self) -> None:
+        self.program('for word; do [ "$before" != --checkpoint ] || : >"$word.new"; before=$word; done; kill -INT $$')
+        self.raises(tmx.KilledError, "SIGINT", example().extract, "out", checkpoint="chk")
+        self.assertEqual(self.stands(), {})
+
+    def test_long_names(self) -> None:
+        out, checkpoint = "o" * 255, "c" * 255
+        example().extract(out, checkpoint=checkpoint)
+        self.assertEqual((Path(out).read_bytes(), tmx.records_done(checkpoint)), (self.wanted(), 300))
 
     def test_the_job_is_kept_behind_the_packets(self) -> None:
         done = mock.Mock()
@@ -195,6 +205,13 @@ class Follow(TestCase):
         with mock.patch("tmx.steps.time", mock.Mock(monotonic=lambda: clock.now, sleep=sleep)):
             found = list(tmx.Recording("growing.rec", SETTINGS).follow(interval=2, timeout=5))
         self.assertEqual((len(found), clock.now), (848, 14))
+
+    def test_the_settings_are_asked_once(self) -> None:
+        self.program('echo "$*" >>asked; [ "$1" != packets ] || dd if=%s of=growing.rec bs=256 count=200 2>/dev/null; exec "$real" "$@"' % RECORDING)
+        Path("growing.rec").write_bytes(OCTETS[:25600])
+        found = list(tmx.Recording("growing.rec", SETTINGS).follow(interval=0.01, timeout=0.1))
+        asked = [it.partition(" ")[0] for it in Path("asked").read_text().splitlines()]
+        self.assertEqual((bool(found), asked), (True, ["frames", "packets"]))
 
     def test_a_file_is_followed_from_where_the_job_stands(self) -> None:
         Path("-growing.rec").write_bytes(OCTETS[:50000])  # its name looks like an option

@@ -32,7 +32,7 @@ def numbers(what: str, values: Any, among: range) -> frozenset[int] | None:
     if values is None:
         return None
     try:
-        several = [values] if isinstance(values, (str, bytes, bytearray, memoryview)) else list(values)
+        several = [values] if isinstance(values, (str, bytes, bytearray, memoryview)) else iter(values)
     except TypeError:
         several = [values]
     return frozenset(number(what, it, among) for it in several)

@@ -75,7 +75,7 @@ class NewFile:
         self.name = Path(os.path.realpath(name))
         self.is_direct = self.name.exists() and not self.name.is_file() or Path(name).is_relative_to("/dev")
         self.append = append and self.name.exists()
-        self.path = self.name if self.is_direct else self.name.with_name(f".{self.name.name}.{secrets.token_hex(4)}")
+        self.path = self.name if self.is_direct else self.name.with_name(f".tmx-{secrets.token_hex(4)}")
         mode = "xb" if not self.is_direct else "ab" if append else "wb"
         try:
             self.file: IO[bytes] = open(self.path, mode)
@@ -92,7 +92,8 @@ class NewFile:
                 self.keep()
         finally:
             if not self.is_direct:
-                self.path.unlink(missing_ok=True)
+                for left in (self.path, Path(f"{self.path}.new")):  # of a checkpoint the program writes the other one first
+                    left.unlink(missing_ok=True)
 
     def keep(self) -> None:
         """Puts it in its place, when all of it is on the disk."""

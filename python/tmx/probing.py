@@ -112,7 +112,7 @@ def probe(recording: str | os.PathLike[str] | IO[bytes]) -> Probe:
 
     recording  the name of a file, `-` for standard input, or a binary stream
 
-    The first 4 MB are looked at, for ten seconds of processor time at most.  A frame has to begin in each record at the
+    The first 4 MB are looked at, for eight seconds of processor time at most.  A frame has to begin in each record at the
     same place, in the first 1,025 octets; a stream with slips is cut by `cut` first.  Frames that are still randomized
     are found behind a marker.
     """

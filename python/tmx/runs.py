@@ -85,9 +85,11 @@ class Run:
                 process_group=0 if command.apart else None,
                 env=os.environ | {"TMX_EXPLAIN": "1"},  # it says why
             )
-        except OSError as error:
+        except BaseException as error:
             os.close(self.output)
             self.errors.close()
+            if not isinstance(error, OSError):
+                raise
             raise ProgramMissingError(f"the program can't be started: {self.words[0]}: {error.strerror}") from None
         finally:
             os.close(written)

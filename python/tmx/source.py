@@ -13,7 +13,7 @@ BLOCK = 1 << 17  # octets that are fed at once
 
 
 class Source:
-    """A file by its name, or a binary stream.
+    """A file by its name, or a binary stream.  Raises TypeError where it is neither.
 
     path    the name of a file; each run of the program reads from it what it needs. None for a stream
     stream  the stream, while a run reads it; None for a file.  What is named and is no file, as a pipe, is a stream too
@@ -21,6 +21,8 @@ class Source:
 
     def __init__(self, recording: str | os.PathLike[str] | IO[bytes]) -> None:
         self.given: Any = os.fspath(recording) if isinstance(recording, (str, os.PathLike)) else recording
+        if not isinstance(self.given, str) and not hasattr(self.given, "read"):
+            raise TypeError(f"a recording is the name of a file, or a binary stream, and not {type(recording).__name__}")
         self.stream: Any = None
         self.was_read = False
         self.fed = 0  # octets of the stream that were read so far
@@ -91,8 +93,7 @@ class Source:
     def read_block(self) -> bytes:
         """The next octets of the stream, as many as there are; none at its end.  Raises TypeError where they are no octets."""
         read = getattr(self.stream, "read1", self.stream.read)
-        block = read(BLOCK)
-        if not isinstance(block, (bytes, bytearray, memoryview)):
+        if isinstance(self.stream, io.TextIOBase) or not isinstance(block := read(BLOCK), (bytes, bytearray, memoryview)):
             raise TypeError("a recording has to be a binary stream, whose read() gives bytes")
         octets = bytes(block)
         self.fed += len(octets)

@@ -105,12 +105,11 @@ class Job:
         if self.is_whole and not warn_of_nothing(runs, self.settings):
             missing.warn()
 
-    def records_there(self) -> int | None:
-        """How many whole records the file has now behind those that are done; less than none where it is too short.
+    def records_there(self, length: int) -> int | None:
+        """How many whole records of so many octets the file has now behind those that are done; less than none where it is too short.
 
         None where a file is missing, or the checkpoint is none: the program says so.
         """
-        length = record_length(self.settings)
         try:
             done = 0 if self.resume is None else records_done(self.resume)
             return os.path.getsize(self.source.given) // length - done
@@ -147,11 +146,12 @@ def next_step(job: Job) -> Job:
 
 def follow_file(job: Job, interval: float, timeout: float | None) -> Iterator[Packet]:
     """A step whenever the file has another length and a record is there that isn't done."""
+    record = record_length(job.settings)
     grown, length = time.monotonic(), -1
     while True:
         length, before = os.path.getsize(job.source.given), length
         step = next_step(job)
-        if length != before and step.records_there() != 0:
+        if length != before and step.records_there(record) != 0:
             yield from step.packets()
             grown = time.monotonic()
         elif timeout is not None and time.monotonic() - grown >= timeout:

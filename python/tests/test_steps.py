@@ -207,7 +207,8 @@ class Follow(TestCase):
         self.assertEqual((len(found), clock.now), (848, 14))
 
     def test_the_settings_are_asked_once(self) -> None:
-        self.program('echo "$*" >>asked; [ "$1" != packets ] || dd if=%s of=growing.rec bs=256 count=200 2>/dev/null; exec "$real" "$@"' % RECORDING)
+        Path("longer.rec").write_bytes(OCTETS[:51200])
+        self.program('echo "$*" >>asked; [ "$1" != packets ] || cat longer.rec >growing.rec; exec "$real" "$@"')
         Path("growing.rec").write_bytes(OCTETS[:25600])
         found = list(tmx.Recording("growing.rec", SETTINGS).follow(interval=0.01, timeout=0.1))
         asked = [it.partition(" ")[0] for it in Path("asked").read_text().splitlines()]
@@ -329,14 +330,17 @@ class Commands(TestCase):
         self.assertEqual({it.name: it.read_bytes() for it in Path("steps").iterdir()}, kept)
 
     def test_one_makes_steps_at_a_time(self) -> None:
-        self.program('[ "$1" != packets ] || { touch begun; sleep 1; }\nexec "$real" "$@"')
+        waits = 'readlink /proc/$$/fd/* >begun; timeout 60 sh -c "until [ -e end ]; do sleep 0.01; done"'
+        self.program(f'[ "$1" != packets ] || {{ {waits}; }}\nexec "$real" "$@"')
         Path("growing.rec").write_bytes(OCTETS)
         first = threading.Thread(target=self.follow, args=["steps"])
         first.start()
         while first.is_alive() and not Path("begun").exists():
             time.sleep(0.01)
         self.assertIn("tmx follow: steps is in use: another process makes a step in it", self.follow("steps"))
+        Path("end").touch()
         first.join()
+        self.assertIn(str(self.folder / "steps"), Path("begun").read_text().splitlines())  # the program holds it too
         self.assertEqual(sorted(os.listdir("steps")), ["job", *(f"step-0000001.{it}" for it in ("chk", "packets", "report"))])
         self.assertEqual(self.follow("steps"), "")
 

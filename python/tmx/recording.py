@@ -154,7 +154,8 @@ class Recording:
 
         A stream is followed to its end, and read from its beginning, also where a job goes on.  The recording is not closed.
         """
-        return follow(Job(self.source, self.settings, chosen(apid, channel), checkpoint=checkpoint), seconds("interval", interval), timeout)
+        job = Job(self.source, self.settings, chosen(apid, channel), checkpoint=checkpoint)
+        return follow(job, seconds("interval", interval), timeout)
 
     def report(self, *, progress: Progress = False) -> list[Item]:
         """What is bad or lost, in the program's order."""

@@ -106,7 +106,7 @@ class Job:
             missing.warn()
 
     def records_there(self, length: int) -> int | None:
-        """How many whole records of so many octets the file has now behind those that are done; less than none where it is too short.
+        """How many whole records of this length the file has now behind those that are done; less than none where it is too short.
 
         None where a file is missing, or the checkpoint is none: the program says so.
         """

@@ -118,8 +118,8 @@ class Whole(TestCase):
         self.assertEqual((Path("out").read_bytes(), tmx.records_done("chk")), (self.wanted(), 300))
 
     def test_what_an_ended_program_leaves(self) -> None:
-        self.program('for word; do [ "$before" != --checkpoint ] || : >"$word.new"; before=$word; done; kill -INT $$')
-        self.raises(tmx.KilledError, "SIGINT", example().extract, "out", checkpoint="chk")
+        self.program('for word; do [ "$before" != --checkpoint ] || : >"$word.new"; before=$word; done; kill -TERM $$')
+        self.raises(tmx.KilledError, "SIGTERM", example().extract, "out", checkpoint="chk")
         self.assertEqual(self.stands(), {})
 
     def test_long_names(self) -> None:

@@ -211,6 +211,20 @@ class Columns:
         for name in (RECORDING, SETTINGS, definition):
             self.raises(tmx.FileError, "failed", example().fields, definition, 200, report=name)
 
+    def test_a_report_goes_on(self) -> None:
+        example().fields(ATTITUDE, 101, report="whole")
+        example().fields(ATTITUDE, 101, report="parts", checkpoint="day.chk", stop_after=150)
+        for refused in (SETTINGS, "none"):
+            with self.assertRaises(tmx.Error):
+                example().fields(refused, 101, report="parts")
+        with self.assertRaises(tmx.Error):
+            example().fields(ATTITUDE, 101, report="parts", resume="none.chk")
+        example().fields(ATTITUDE, 101, report="parts", resume="day.chk")
+        self.assertEqual(Path("parts").read_bytes(), Path("whole").read_bytes())
+        example().fields(ATTITUDE, 101, report="parts")
+        example().fields(ATTITUDE, 101, report="/dev/null")
+        self.assertEqual(Path("parts").read_bytes(), Path("whole").read_bytes())
+
     def test_shown(self) -> None:
         fields = example().fields(ATTITUDE, 101, time="SECONDS", epoch="2000-01-01")
         with mock.patch.dict(os.environ, {"COLUMNS": "200"}):

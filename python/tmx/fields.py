@@ -234,7 +234,7 @@ def read_tables(
     """What `tmx fields` gives, as tables of so many rows, or as one.  The last has the packets that are too short for a row."""
     missing = set(table.channels or ())
     with report_file(table, source, settings) as report:
-        line = ["--definition", os.fspath(table.definition), "--apid", str(table.apid), "--report", report.name]
+        line = ["--definition", os.fspath(table.definition), "--apid", str(table.apid), "--report", report]
         command = Command(["fields", "--binary", *line, *table.step])
         others = [] if table.rest is None else [table.rest.command]
         with running(source, settings, command, *others, progress=progress) as runs:
@@ -253,7 +253,8 @@ def read_tables(
             if table.rest is not None:
                 table.rest.finish()
             runs.finish()
-        last.short_lines = list(table.short_lines(report, missing))
+        with open(report, "rb") as lines:
+            last.short_lines = list(table.short_lines(lines, missing))
     if reads_all(table.step):
         warn_of_missing(table, runs, settings, last.is_empty(), missing)
     yield last
@@ -267,20 +268,27 @@ def warn_of_missing(table: Table, runs: Runs, settings: Name | Settings, is_empt
 
 
 @contextmanager
-def report_file(table: Table, source: Source, settings: Name | Settings) -> Iterator[IO[bytes]]:
-    """A file for the report, which goes to the table's at the end.  Raises FileError where that is another file of the run."""
-    with tempfile.NamedTemporaryFile() as report:
+def report_file(table: Table, source: Source, settings: Name | Settings) -> Iterator[str]:
+    """The name of a file for the report, which goes to the table's at the end, if a run has made it.
+
+    Raises FileError where the table's is another file of the run.
+    """
+    with tempfile.TemporaryDirectory() as folder:
+        report = os.path.join(folder, "report")
         if table.report is None:
             yield report
             return
         kept = [word_behind(it, table.step) for it in ("--checkpoint", "--resume")]
         refuse_to_overwrite(table.report, source.file, settings, table.definition, *kept)
-        with open(table.report, "wb") as file:
+        with open(table.report, "ab") as file:
             try:
                 yield report
             finally:
-                report.seek(0)
-                shutil.copyfileobj(report, file)
+                if os.path.exists(report):
+                    if "--resume" not in table.step and os.path.isfile(table.report):
+                        file.truncate(0)
+                    with open(report, "rb") as made:
+                        shutil.copyfileobj(made, file)
 
 
 # Rows.

@@ -61,6 +61,19 @@ class Columns:
         signed = column([b"\xff", b"\x7f"], "int", labels={-1: "LESS", 127: "MOST"})
         self.assertEqual(list(signed["A"]), ["LESS", "MOST"])
 
+    def test_labels_that_overlap(self) -> None:
+        """The first one that has a value counts."""
+        for labels, wanted in (
+            ({range(0, 10, 2): "EVEN", range(1, 10, 2): "ODD"}, ["EVEN", "ODD", "EVEN", "ODD", None]),
+            ({range(0, 4): "ANY", 2: "TWO"}, ["ANY", "ANY", "ANY", "ANY", None]),
+            ({2: "TWO", range(0, 4): "ANY"}, ["ANY", "ANY", "TWO", "ANY", None]),
+            ({range(3, 0, -1): "DOWN"}, [None, "DOWN", "DOWN", "DOWN", None]),
+        ):
+            table = column(octets([0, 1, 2, 3, 200]), "uint", labels=labels)
+            self.assertEqual([it if isinstance(it, str) else None for it in table["A"]], wanted, labels)
+        for key in ("1", 1.0, None):
+            self.raises(TypeError, None, column, octets([1]), "uint", labels={key: "ON"})
+
     def test_polynomials(self) -> None:
         """3 - 2 x + x^2 / 2, of x = 0, 1, 4 and 200."""
         for curve in ([3, -2, 0.5], tmx.Polynomial((3, -2, 0.5))):
@@ -111,6 +124,8 @@ class Columns:
         codes = [b"\x41" + bytes(8), b"\x40" + bytes(8), b"\x41" + bytes(2) + (86_401_000).to_bytes(4, "big") + bytes(2)]
         table = column(codes, "str", times=tmx.TimeCode("cds"))
         self.assertEqual((dates(table["A"]), table.bad_times), ([datetime(1958, 1, 1), None, None], 2))
+        table = column([bytes(9), b"\x50" + bytes(8), *codes], "str", times=tmx.TimeCode("cds"))
+        self.assertEqual((dates(table["A"]), table.bad_times), ([None, None, datetime(1958, 1, 1), None, None], 4))
         table = column([struct.pack(">d", it) for it in (math.nan, math.inf, 0)], "float", times=tmx.Ticks("UNIX"))
         self.assertEqual((dates(table["A"]), table.bad_times), ([None, None, datetime(1970, 1, 1)], 2))
 

@@ -5,6 +5,7 @@ from bisect import bisect_right
 from collections.abc import Mapping, Sequence
 from dataclasses import dataclass
 from itertools import compress
+from operator import index
 from typing import TYPE_CHECKING, Any, Protocol
 
 from .arrays import objects
@@ -111,27 +112,25 @@ def is_numbers(raw: Any, kinds: str, types: tuple[type, ...]) -> bool:
 
 @dataclass(frozen=True)
 class Labels:
-    """The label of each raw value, or of each range of them.  Others have none."""
+    """The label of each raw value, or of each range of them: the first that has it.  Others have none."""
 
     labels: Mapping[int | range, str]
     type = "label"
 
     def values(self, name: str, raw: Any) -> Any:
-        pairs = [(it if isinstance(it, range) else range(it, it + 1), label) for it, label in self.labels.items()]
-        ranges = sorted(pairs, key=lambda it: it[0].start)
-        starts = [it.start for it, _ in ranges]
+        ranges = [(it if isinstance(it, range) else (index(it),), label) for it, label in self.labels.items()]
         names = list(dict.fromkeys(self.labels.values()))
         codes = {label: code for code, label in enumerate(names)}
         numpy, pandas = module("numpy"), module("pandas")
 
         def code_of(value: int) -> int:
-            at = bisect_right(starts, value) - 1
-            return codes[ranges[at][1]] if at >= 0 and value in ranges[at][0] else -1
+            return next((codes[label] for among, label in ranges if value in among), -1)
 
         if not is_numbers(raw, "ui", (int,)):
             raise ColumnError(f"the column {name!r} has no whole numbers, and only these have labels")
         if numpy is None:
-            return [([*names, None])[code_of(it)] for it in raw]
+            found_of = {it: [*names, None][code_of(it)] for it in set(raw)}
+            return [found_of[it] for it in raw]
         kinds, places = numpy.unique(raw, return_inverse=True)
         found = numpy.array([code_of(it) for it in kinds.tolist()], int)[places]
         return numpy.array([*names, None], object)[found] if pandas is None else pandas.Categorical.from_codes(found, names)

@@ -112,7 +112,7 @@ class TimeCode:
         octets = list(values)
         if not all(isinstance(it, bytes) for it in octets):
             raise ColumnError(f"the column {name!r} has no octets, and {self.form} stands in octets: see Ticks")
-        code = code_of(self.form, octets[0]) if octets else None
+        code = next(filter(None, (code_of(self.form, it) for it in octets)), None)
         passed = (None if code is None else code.passed(it, NANOSECONDS) for it in octets)
         return times_of(passed, clock_of(EPOCHS[self.form[:3]] if self.epoch is None else self.epoch))
 

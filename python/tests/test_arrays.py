@@ -62,8 +62,9 @@ class Columns:
             self.raises(tmx.ColumnError, None, rows_of, [b"abc"], "S,str,24\n", arrays={"S": form})
         self.raises(tmx.ColumnError, None, rows_of, [b"abc"], "S,uint,24\n", arrays={"S": "u1"})
         self.raises(tmx.ColumnError, None, rows_of, [b"abc"], "S,str,24\n", arrays={"T": "u1"})
-        with self.assertRaises((ValueError, TypeError)):
-            rows_of([b"abc"], "S,str,24\n", arrays={"S": "many"})
+        for form in ("many", "", None, bool, int, "uint0", "int0", "uint65", "bool", "O", ["u1"]):
+            with self.assertRaises((ValueError, TypeError), msg=form):
+                rows_of([bytes(8)], "S,str,64\n", arrays={"S": form})
 
     def test_rests(self) -> None:
         """Of damaged recordings the octets behind the definition's last bit, which is bit 70."""
@@ -110,6 +111,12 @@ class AsLists(Columns, WithModules):
 
 @needs("numpy")
 class AsArrays(Columns, WithModules):
+    def test_types_of_numpy(self) -> None:
+        import numpy
+
+        for form in (numpy.uint16, numpy.dtype(">f4"), numpy.dtype([("A", "u1"), ("B", ">u2"), ("C", "u1")]), "double"):
+            self.assertEqual(rows_of([bytes(8)], "S,str,64\n", arrays={"S": form})["S"].dtype, form)
+
     def test_shapes(self) -> None:
         found = rows_of([bytes(range(8))] * 3, "S,str,64\n", arrays={"S": ">u2"})
         self.assertEqual((found["S"].shape, found["S"].dtype), ((3, 4), ">u2"))

@@ -80,7 +80,12 @@ class Columns:
             self.assertEqual(list(column(octets([0, 1, 4, 200]), "uint", curves=curve)["A"]), [3.0, 1.5, 3.0, 19603.0])
         self.assertEqual(list(column([b"\xf0"], "int", curves=[0, 2])["A"]), [-32.0])
         self.assertEqual(list(column([struct.pack(">f", 0.25)], "float", curves=[1, 2])["A"]), [1.5])
-        self.assertEqual(list(column(octets([7]), "uint", curves=[])["A"]), [0.0])
+        once = tmx.Polynomial(map(float, ("0", "0.5")))
+        for _ in range(2):
+            self.assertEqual(list(column(octets([7]), "uint", curves=once)["A"]), [3.5])
+        for curve in ("10", b"10", {1: 0.5, 0: 3}, {5, 0.01}, {0: 1}.keys(), 0.5, [1j], [[0, 1]]):
+            self.raises(TypeError, None, tmx.Polynomial, curve)
+        self.raises(ValueError, None, tmx.Polynomial, [])
 
     def test_splines(self) -> None:
         def found(order: int, extrapolate: bool) -> list[float | None]:

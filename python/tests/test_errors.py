@@ -53,6 +53,8 @@ class Refused(TestCase):
         for time in ("NONE", "ANGLE_X", ("SECONDS", "FRACTION", "MODE"), ()):
             self.raises(tmx.ColumnError, None, example().fields, ATTITUDE, 101, time=time, epoch="2000-01-01")
         self.raises(tmx.ColumnError, None, example().fields, ATTITUDE, 101, time="SECONDS")
+        for time in ({"SECONDS", "FRACTION"}, {"SECONDS": 1}, b"SECONDS", 7):
+            self.raises(TypeError, None, example().fields, ATTITUDE, 101, time=time, epoch="2000-01-01")
 
     def test_checkpoint(self) -> None:
         list(example().packets(checkpoint="day.chk", stop_after=100))

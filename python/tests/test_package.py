@@ -111,6 +111,13 @@ class TheSettings(TestCase):
         self.assertEqual(settings.record_length, 292)
         self.assertEqual(tmx.Recording(RECORDING, tmx.Settings.read(SETTINGS)).report(), example().report())
 
+    def test_channels(self) -> None:
+        for channels in ([0, 3], (0, 3), range(0, 4, 3)):
+            self.assertEqual(tmx.Settings(42, 256, True, channels=channels).channels, (0, 3))
+        for channels in (b"\1\2", bytearray(1), "12", 3, True, [True], [1.0]):
+            with self.assertRaisesRegex(TypeError, "^channels takes "):
+                tmx.Settings(42, 256, True, channels=channels)
+
 
 class TheSummary(TestCase):
     def test_numbers(self) -> None:

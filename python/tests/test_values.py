@@ -98,7 +98,8 @@ class Columns:
             wanted = [it.decode("ascii", errors) for it in texts]
             self.assertEqual(list(rows_of(texts, "T,str,24\n", encoding="ascii", errors=errors)["T"]), wanted)
         for how in ({"encoding": "no such one"}, {"encoding": "ascii", "errors": "no such one"}):
-            self.raises(LookupError, None, rows_of, texts, "T,str,24\n", **how)
+            for those in (texts, [b"abc"]):
+                self.raises(LookupError, None, rows_of, those, "T,str,24\n", **how)
 
     def test_long_texts(self) -> None:
         texts = [it * 20 for it in TEXTS]

@@ -37,15 +37,15 @@ class Form:
 
 
 def form_of(said: Any) -> Form:
-    """The form that a caller names.  Raises ValueError where it is none."""
-    packed = PACKED.fullmatch(said) if isinstance(said, str) else None
+    """The form that a caller names.  Raises TypeError and ValueError where it is none."""
+    text, numpy = said if isinstance(said, str) else "", module("numpy")
+    packed, plain = PACKED.fullmatch(text), PLAIN.fullmatch(text)
     if packed is not None:
         return Form(said, int(packed[2]), True, not packed[1])
-    plain = PLAIN.fullmatch(said) if isinstance(said, str) else None
-    numpy = module("numpy")
-    if numpy is not None:
-        kind = numpy.dtype(said)
-        if kind.hasobject or not kind.itemsize:
+    if numpy is not None and not re.fullmatch("u?int[0-9]+", text):
+        is_type = isinstance(said, numpy.dtype) or isinstance(said, type) and issubclass(said, numpy.generic)
+        kind = numpy.dtype(said) if text or is_type else None
+        if kind is None or kind.hasobject or not kind.itemsize or kind.kind == "b":
             raise ValueError(f"an array is of numbers, and not of {said!r}")
         return Form(said, 8 * kind.itemsize, False)
     if plain is None or CODES[plain[1]][int(plain[2])] == " ":

@@ -2,7 +2,7 @@
 
 import math
 from bisect import bisect_right
-from collections.abc import Mapping, Sequence
+from collections.abc import Mapping, Sequence, Set
 from dataclasses import dataclass
 from itertools import compress
 from operator import index
@@ -33,17 +33,26 @@ class Decoder(Protocol):
 
 @dataclass(frozen=True)
 class Polynomial:
-    """A calibration: the sum of coefficients times powers of the raw value, from the power 0 up."""
+    """A calibration: the sum of coefficients times powers of the raw value, from the power 0 up.
+
+    Raises TypeError where they are no numbers in an order, and ValueError where there are none.
+    """
 
     coefficients: Sequence[float]
     type = "float"
 
+    def __post_init__(self) -> None:
+        if isinstance(self.coefficients, (str, bytes, bytearray, memoryview, Mapping, Set)):
+            raise TypeError(f"a polynomial takes a list of coefficients, and not {self.coefficients!r}")
+        object.__setattr__(self, "coefficients", tuple(map(float, self.coefficients)))
+        if not self.coefficients:
+            raise ValueError("a polynomial has coefficients")
+
     def values(self, name: str, raw: Any) -> Any:
         numpy, given = module("numpy"), floats(name, raw)
-        powers = [float(it) for it in self.coefficients] or [0.0]
         if numpy is not None:
-            return numpy.polynomial.polynomial.polyval(given, powers)
-        return [horner(powers, it) for it in given]
+            return numpy.polynomial.polynomial.polyval(given, self.coefficients)
+        return [horner(self.coefficients, it) for it in given]
 
 
 def horner(coefficients: Sequence[float], value: float) -> float:

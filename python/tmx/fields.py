@@ -167,11 +167,16 @@ class Time:
 
 
 def time_of(names: str | Sequence[str] | None, epoch: Epoch | None) -> Time | None:
-    """What makes times, where they are asked for.  Raises ColumnError where columns or the epoch are missing."""
+    """What makes times, where they are asked for.
+
+    Raises ColumnError where columns or the epoch are missing, and TypeError where the columns have no order.
+    """
     if names is None and epoch is None:
         return None
     if names is None or epoch is None:
         raise ColumnError("`time` and `epoch` go together")
+    if not isinstance(names, (str, list, tuple)):
+        raise TypeError(f"`time` takes a column, or a list or tuple of columns, and not {names!r}")
     return Time([names] if isinstance(names, str) else names, epoch)
 
 

@@ -3,7 +3,7 @@
 import json
 import os
 import tomllib
-from collections.abc import Iterator, Sequence
+from collections.abc import Iterable, Iterator, Sequence
 from contextlib import contextmanager
 from dataclasses import dataclass, fields
 from tempfile import NamedTemporaryFile
@@ -55,6 +55,8 @@ class Settings:
             if (value := getattr(self, name)) is not None:
                 object.__setattr__(self, name, number(name, value, among))
         if self.channels is not None:
+            if isinstance(self.channels, (str, bytes, bytearray, memoryview)) or not isinstance(self.channels, Iterable):
+                raise TypeError(f"channels takes a list of numbers, and not {self.channels!r}")
             object.__setattr__(self, "channels", tuple(number("channels", it, CHANNELS) for it in self.channels))
 
     @classmethod

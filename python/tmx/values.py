@@ -49,7 +49,8 @@ class Encoding:
 
 
 def encoding_of(name: str | None, errors: str, octets: Iterable[str] = ()) -> Encoding | None:
-    """How texts are decoded; None where they stay octets.  Raises LookupError where there is no such encoding."""
+    """How texts are decoded; None where they stay octets.  Raises LookupError where one of both isn't known."""
+    codecs.lookup_error(errors)
     return None if name is None else Encoding(codecs.lookup(name).name, errors, frozenset(octets))
 
 

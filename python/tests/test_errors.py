@@ -1,6 +1,7 @@
 """Each error, by what brings it: wrong files, failing devices, and programs that are missing, too old or killed."""
 
 import contextlib
+import copy
 import io
 import os
 import pickle
@@ -125,6 +126,16 @@ class Refused(TestCase):
         error = self.raises(tmx.FileError, "failed", tmx.Recording("none", SETTINGS).summary)
         again = pickle.loads(pickle.dumps(error))
         self.assertEqual((str(again), again.line, again.status, again.word), (str(error), error.line, 1, "failed"))
+        given = tmx.XtceError("/Sat/C", "it contains itself")
+        for again in (pickle.loads(pickle.dumps(given)), copy.copy(given)):
+            self.assertEqual((str(again), again.path, again.reason), ("/Sat/C: it contains itself", "/Sat/C", "it contains itself"))
+        left = [tmx.Error]
+        while left:  # each other one
+            kind = left.pop()
+            left += kind.__subclasses__()
+            if kind is not tmx.XtceError:
+                error = kind("line", 1, "word") if issubclass(kind, tmx.ProgramError) else kind("why")
+                self.assertEqual(str(pickle.loads(pickle.dumps(error))), str(error))
         self.assertEqual(pickle.loads(pickle.dumps(example())).summary(), example().summary())
 
 

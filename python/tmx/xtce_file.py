@@ -18,9 +18,12 @@ class XtceError(Error):
     """An XTCE file, or a part of it, can't be used.  `path` names the part, `reason` says why."""
 
     def __init__(self, path: str, reason: str) -> None:
-        super().__init__(f"{path}: {reason}")
+        super().__init__(path, reason)
         self.path = path
         self.reason = reason
+
+    def __str__(self) -> str:
+        return f"{self.path}: {self.reason}"
 
 
 # Elements.

@@ -151,6 +151,18 @@ class Warned(TestCase):
         self.assertEqual(len(tmx.Recording(RECORDING, "pipe").report()), 23)
         writer.join()
 
+    def test_settings_that_the_program_takes(self) -> None:
+        """A byte order mark, and TOML 1.1, which Python doesn't read: nothing is told then."""
+        text = SETTINGS.read_text()
+        Path("marked.toml").write_text("\ufeff" + text)
+        Path("newer.toml").write_text(text.replace('"never"', '"\\x6eever"', 1))
+        self.assertEqual(tmx.Settings.read("marked.toml"), tmx.Settings.read(SETTINGS))
+        for name in ("marked.toml", "newer.toml"):
+            recording = tmx.Recording(RECORDING, name)
+            for call in (*self.calls(recording), recording.summary):
+                self.assertEqual(self.warnings_of(call), [])
+        self.assertEqual(len(list(tmx.Recording(RECORDING, "marked.toml").follow(timeout=0))), 848)
+
     def test_commands(self) -> None:
         OTHER.write("other")
         status, said = command("map", "--settings", "other", RECORDING)

@@ -5,6 +5,7 @@ import re
 import sys
 import warnings
 from collections.abc import Collection
+from contextlib import suppress
 from contextvars import ContextVar
 
 from .errors import TmxWarning
@@ -44,10 +45,12 @@ def warn_of_nothing(runs: Runs, settings: Settings | str | os.PathLike[str], cam
 
 
 def settings_of(settings: Settings | str | os.PathLike[str]) -> Settings | None:
-    """Settings that the program has taken; None where their file can't be read once more, as that of a pipe."""
+    """Settings that the program has taken; None where Python can't read their file: that of a pipe, or TOML 1.1."""
     if isinstance(settings, Settings):
         return settings
-    return Settings.read(settings) if os.path.isfile(settings) else None
+    with suppress(ValueError):
+        return Settings.read(settings) if os.path.isfile(settings) else None
+    return None
 
 
 def numbered(word: str, numbers: Collection[int | str]) -> str:

@@ -66,8 +66,8 @@ class Settings:
         Raises OSError, ValueError (no TOML, a number out of its range) or TypeError (no number, keys that settings don't have, or
         lack).
         """
-        with open(path, "rb") as file:
-            return cls(**tomllib.load(file))
+        with open(path, encoding="utf-8-sig", newline="") as file:
+            return cls(**tomllib.loads(file.read()))
 
     @property
     def record_length(self) -> int:

@@ -111,6 +111,12 @@ class AsLists(Columns, WithModules):
 
 @needs("numpy")
 class AsArrays(Columns, WithModules):
+    def test_arrays_that_are_decoded(self) -> None:
+        found = rows_of([b"\x01\x02", b"\x04\x01"], "S,str,16\n", arrays={"S": "u1"})
+        for curve in (tmx.Spline([(0, 0), (4, 2)]), [0, 0.5]):
+            self.assertEqual(listed(found.decoded(curves={"S": curve})["S"]), [(0.5, 1.0), (2.0, 0.5)])
+        self.raises(tmx.ColumnError, None, found.decoded, labels={"S": {1: "ON"}})
+
     def test_types_of_numpy(self) -> None:
         import numpy
 

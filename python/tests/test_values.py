@@ -146,6 +146,15 @@ class Columns:
             fields = rows_of(payloads, "S,uint,32\nF,uint,16\n", time="S", epoch=epoch)
             self.assertEqual(self.times(fields), [it.replace(microsecond=0) for it in wanted])
 
+    def test_epochs_of_nanoseconds(self) -> None:
+        for epoch in ("2000-01-01T00:00:00.123456789", "2000-01-01T00:00:00,1234567+01:00"):
+            self.raises(ValueError, None, rows_of, [b"a"], "S,uint,8\n", time="S", epoch=epoch)
+
+    def test_an_epoch_before_the_year_1(self) -> None:
+        payload = struct.pack(">Q", 36000 + (datetime(2000, 1, 1) - datetime(1, 1, 1)).days * 86400)
+        fields = rows_of([payload], "S,uint,64\n", time="S", epoch="0001-01-01T00:00:00+10:00")
+        self.assertEqual(self.times(fields), [datetime(2000, 1, 1)])
+
     def test_times_out_of_range(self) -> None:
         payloads = [struct.pack(">Q", it) for it in (0, 1 << 63, 2**64 - 1, 86400)]
         fields = rows_of(payloads, "S,uint,64\n", time="S", epoch="2000-01-01")
@@ -274,6 +283,14 @@ class Arrays(Columns, TestCase):
     def test_nanoseconds(self) -> None:
         fields = rows_of([b"\0\1\xff\xff"], "S,uint,16\nF,uint,16\n", time=("S", "F"), epoch="1970-01-01")
         self.assertEqual(fields.time.astype("int64").tolist(), [1_999_984_741])
+
+    def test_fractions_of_all_widths(self) -> None:
+        for bits in (1, 31, 32, 33, 34, 35, 40, 63, 64):
+            fractions = {0, 1, 1100 % 2**bits, 2**bits // 3, 2**bits - 1}
+            payloads = [struct.pack(">BQ", 1, it << 64 - bits) for it in fractions]
+            fields = rows_of(payloads, f"S,uint,8\nF,uint,{bits}\n", time=("S", "F"), epoch="1970-01-01")
+            wanted = [10**9 + (it * 10**9 >> bits) for it in fractions]
+            self.assertEqual(fields.time.astype("int64").tolist(), wanted, bits)
 
     def test_numpy(self) -> None:
         self.assertEqual(int(example().fields(ATTITUDE, 101).to_numpy()["ANGLE_X"].max()), 899)

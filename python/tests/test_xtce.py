@@ -354,6 +354,12 @@ class System(TestCase):
         self.assertEqual(dates(found.time), [datetime(1970, 1, 1), datetime(1970, 1, 1, 0, 0, 1)])
         self.assertEqual(plain(found["A_raw"]), [0, 1])
 
+    def test_bad_times_of_other_rows(self) -> None:
+        wide = TIME.format("", U32.replace("32", "64"), "<Epoch>UNIX</Epoch>")
+        text = one(wide).replace(OF_300, f'<ComparisonList>{OF_300}<Comparison parameterRef="COUNT" value="6"/></ComparisonList>')
+        self.assertEqual(table(text, b"\xff" * 8, bytes(8), bytes(8)).bad_times, 0)
+        self.assertEqual(table(text, bytes(8), b"\xff" * 8, bytes(8)).bad_times, 1)
+
     def test_the_command(self) -> None:
         Path("system.xml").write_text(one(BYTE, entries("A", "B") + REPEATED).replace('value="300"', 'value="9"'))
         said = "tmx definition: /Sat/C: there is no parameter 'B'\n"

@@ -91,7 +91,7 @@ class Spline:
         if numpy is None:
             return [self.value(raws, calibrated, it) for it in given]
         kinds, places = numpy.unique(given, return_inverse=True)
-        return numpy.array([self.value(raws, calibrated, it) for it in kinds.tolist()], float)[places]
+        return numpy.array([self.value(raws, calibrated, it) for it in kinds.tolist()], float)[places].reshape(raw.shape)
 
     def value(self, raws: Sequence[float], calibrated: Sequence[float], raw: float) -> float:
         if math.isnan(raw) or not (self.extrapolate or raws[0] <= raw <= raws[-1]):
@@ -135,7 +135,7 @@ class Labels:
         def code_of(value: int) -> int:
             return next((codes[label] for among, label in ranges if value in among), -1)
 
-        if not is_numbers(raw, "ui", (int,)):
+        if not is_numbers(raw, "ui", (int,)) or getattr(raw, "ndim", 1) > 1:
             raise ColumnError(f"the column {name!r} has no whole numbers, and only these have labels")
         if numpy is None:
             found_of = {it: [*names, None][code_of(it)] for it in set(raw)}
@@ -233,12 +233,12 @@ def no_times(times: Any) -> int:
 
 
 def rows_where(fields: "Fields", kept: Sequence[bool]) -> "Fields":
-    """The rows of a table for which this holds."""
+    """The rows of a table for which this holds.  Its times are those of columns."""
     numpy = module("numpy")
 
     def chosen(values: Any) -> Any:
         return list(compress(values, kept)) if numpy is None else values[numpy.array(kept, bool)]
 
     found = fields.with_columns(fields.columns, [chosen(it) for it in fields.values()])
-    found.time = None if fields.time is None else chosen(fields.time)
+    found.bad_times = sum(no_times(found[it.name]) for it in found.columns if it.type == "time")
     return found

@@ -1,8 +1,9 @@
 """Times of rows: an epoch, and the seconds and their binary fraction behind it."""
 
+import re
 from collections.abc import Iterable, Sequence
 from dataclasses import dataclass
-from datetime import UTC, date, datetime, timedelta
+from datetime import date, datetime, timedelta
 from typing import Any, Protocol
 
 from .leap_seconds import NANOSECONDS, LeapSeconds, leap_seconds
@@ -90,18 +91,23 @@ def array_of_times(numpy: Any, seconds: Any, fractions: Any, bits: int, begin: i
         bad = (seconds < numpy.uint64(least)) | (seconds > numpy.uint64(min(most, 2**64 - 1)))
     found = seconds * numpy.uint64(NANOSECONDS) + numpy.uint64(begin % 2**64)
     if fractions is not None:
-        shift = max(0, bits - 34)  # so that the product has 64 bits
-        fraction = fractions.astype("uint64") >> numpy.uint64(shift)
-        found += fraction * numpy.uint64(NANOSECONDS) >> numpy.uint64(bits - shift)
+        low = min(bits, 32)  # so that each product has 64 bits
+        high, rest = divmod(fractions.astype("uint64"), 2**low)
+        found += high * NANOSECONDS + (rest * NANOSECONDS >> low) >> bits - low
     found[bad] = NONE % 2**64
     return found.view("datetime64[ns]"), int(bad.sum())
 
 
 def nanoseconds(epoch: Epoch) -> int:
-    """Those from 1970 to an epoch; one with a zone is changed to UTC.  Raises TypeError and ValueError where it is no time."""
+    """Those from 1970 to an epoch; one with a zone is changed to UTC.
+
+    Raises TypeError and ValueError where it is no time, or a text of more than microseconds, which Python cuts off.
+    """
     rest = getattr(epoch, "nanosecond", 0)  # of pandas.Timestamp
     found: Any = epoch
     if isinstance(epoch, str):
+        if re.search("[.,][0-9]{7}", epoch):
+            raise ValueError(f"{epoch!r} has more than microseconds: take a numpy.datetime64 or a pandas.Timestamp")
         found = datetime.fromisoformat(epoch)
     elif type(epoch).__name__ == "datetime64":
         found = epoch.astype("datetime64[us]").item()  # type: ignore[union-attr]
@@ -113,6 +119,5 @@ def nanoseconds(epoch: Epoch) -> int:
         raise TypeError(f"an epoch is a text, a date or a time, and {epoch!r} is none")
     if not isinstance(found, datetime) or found != found:
         raise ValueError(f"{epoch!r} is no time from the year 1 to 9999")
-    if found.tzinfo is not None:
-        found = found.astimezone(UTC).replace(tzinfo=None)
-    return (found - datetime(1970, 1, 1)) // timedelta(microseconds=1) * 1000 + rest
+    passed = found.replace(tzinfo=None) - datetime(1970, 1, 1) - (found.utcoffset() or timedelta())
+    return passed // timedelta(microseconds=1) * 1000 + rest

@@ -51,6 +51,13 @@ class Columns:
         blocks = list(rows_of(payloads, "T,str,32\nS,str,16\n", arrays={"S": "uint4"}, blocks=1))
         self.assertEqual([listed(it["S"]) for it in blocks], [[(15, 15, 15, 14)], [(0, 0, 0, 1)]])
 
+    def test_tables_that_are_equal(self) -> None:
+        definition = "A,uint,8\nS,str,16\nT,str,8\n"
+        one, same, other = (rows_of([it, b"abcd"], definition, arrays={"S": "u1"}) for it in (b"1234", b"1234", b"1254"))
+        self.assertEqual((one == same, one == other, one != other, one == 5), (True, False, True, False))
+        self.assertEqual(one, dict(same))
+        self.assertEqual(one.decoded(labels={"A": {97: "ON"}}) == same.decoded(labels={"A": {49: "ON"}}), False)
+
     def test_no_rows(self) -> None:
         recording = tmx.Recording(io.BytesIO(b""), tmx.Settings(42, 100, False))
         (self.folder / "d.csv").write_text("name,data_type,bit_length\nS,str,24\n")

@@ -96,6 +96,7 @@ class Columns:
         self.assertEqual(found(1, True), [-1.0, 1.0, 2.0, 3.0, 0.0, -1.0, -3.0])
         self.assertEqual(found(0, False), [None, 1.0, 1.0, 3.0, 3.0, -1.0, None])
         self.assertEqual(found(0, True), [1.0, 1.0, 1.0, 3.0, 3.0, -1.0, -1.0])
+        self.assertEqual(tmx.Spline(zip((0, 1), (2, 3))), tmx.Spline([(0, 2), (1, 3)]))
         for points, order in (((), 1), (((1, 2), (1, 3)), 1), (POINTS, 2)):
             self.raises(ValueError, None, tmx.Spline, points, order)
 
@@ -180,7 +181,10 @@ class Columns:
         self.raises(tmx.ColumnError, None, table.decoded, labels={"T": {0: "OFF"}})
         for form, epoch in (("cuc4.2", None), ("cds5", None), ("", "TAI")):
             self.raises(ValueError, None, tmx.TimeCode, form, epoch)
-        self.raises(ValueError, None, tmx.Ticks, "TAI", "a second")
+        for seconds in ("a second", "1/0", math.inf, math.nan):
+            self.raises(ValueError, None, tmx.Ticks, "TAI", seconds)
+            self.raises(ValueError, None, tmx.Ticks, "TAI", 1, seconds)
+        self.raises(TypeError, None, tmx.Ticks, "TAI", None)
 
 
 class AsLists(Columns, WithModules):
@@ -194,6 +198,17 @@ class AsArrays(Columns, WithModules):
     def setUp(self) -> None:
         super().setUp()
         self.have(pandas=None)
+
+    def test_numbers_of_numpy(self) -> None:
+        import numpy
+
+        for kind in (numpy.float32, numpy.float64, numpy.int32, numpy.uint8, numpy.int64):
+            times = column(octets([250]), "uint", times=tmx.Ticks("1970-01-01", kind(100), kind(1)))["A"]
+            self.assertEqual(times.astype("int64").tolist(), [25001 * 10**9], kind)
+        self.assertEqual(tmx.Spline(numpy.array([[0, 0], [10, 5]])), tmx.Spline([(0, 0), (10, 5)]))
+        self.assertEqual(tmx.Settings(42, 256, numpy.bool_(True)).toml(), tmx.Settings(42, 256, True).toml())
+        for key in (numpy.uint8(255), numpy.int64(255)):
+            self.assertEqual(list(column(octets([255]), "uint", labels={key: "ON"})["A"]), ["ON"])
 
     def test_calibrators_beside_numpy(self) -> None:
         import numpy

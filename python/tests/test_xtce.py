@@ -212,6 +212,8 @@ REFUSED = (
     (one(TIME.format("", U32, '<OffsetFrom parameterRef="COUNT"/>')), "/Sat/A: OffsetFrom of its time is not read"),
     (one(TIME.format("", U32, "")), "/Sat/A: its time has no reference epoch"),
     (one(TIME.format("", U32, "<Epoch>MJD</Epoch>")), "/Sat/A: the scale, the offset or the epoch 'MJD'"),
+    (one(TIME.format('scale="1/0"', U32, "<Epoch>TAI</Epoch>")), "/Sat/A: the scale, the offset or the epoch 'TAI'"),
+    (one(TIME.format('offset="inf"', U32, "<Epoch>TAI</Epoch>")), "/Sat/A: the scale, the offset or the epoch 'TAI'"),
     (one(TIME.format('units="months"', U32, "<Epoch>TAI</Epoch>")), "/Sat/A: times in months are not read"),
     (one(TIME.format("", "<BinaryDataEncoding/>", "<Epoch>TAI</Epoch>")), "/Sat/A: BinaryDataEncoding of a AbsoluteTimeParameterType"),
     (one(U8 + ARRAY.format("", "")), "/Sat/A: an array has dimensions, and at most 1000 values"),

@@ -81,13 +81,13 @@ class Spline:
     def __post_init__(self) -> None:
         if self.order not in (0, 1):
             raise ValueError(f"a spline is of order 0 or 1, and not {self.order}")
-        if not self.points or len({raw for raw, _ in self.points}) < len(self.points):
+        object.__setattr__(self, "points", tuple((float(raw), float(value)) for raw, value in self.points))
+        if not self.points or len(dict(self.points)) < len(self.points):
             raise ValueError("a spline has points, each of another raw value")
 
     def values(self, name: str, raw: Any) -> Any:
         numpy, given = module("numpy"), floats(name, raw)
-        points = sorted((float(one), float(other)) for one, other in self.points)
-        raws, calibrated = [it for it, _ in points], [it for _, it in points]
+        raws, calibrated = zip(*sorted(self.points))
         if numpy is None:
             return [self.value(raws, calibrated, it) for it in given]
         kinds, places = numpy.unique(given, return_inverse=True)

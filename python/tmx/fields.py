@@ -68,6 +68,10 @@ class Fields(Mapping[str, Any]):
         """How many columns it has; `rows` says how many rows."""
         return len(self.by_name)
 
+    def __eq__(self, other: object) -> bool:
+        """Whether both have columns of the same names, with the same values."""
+        return isinstance(other, Mapping) and lists_of(self) == lists_of(other)
+
     @property
     def short_packets(self) -> list[ShortPacket]:
         """The packets that have no row."""
@@ -145,6 +149,11 @@ class Fields(Mapping[str, Any]):
             half = MOST_COLUMNS // 2
             head, *rows = [[*it[:half], "...", *it[-half:]] for it in (head, *rows)]
         return f"{html_table(head, rows)}<p>{self.ending()}</p>"
+
+
+def lists_of(table: Mapping[str, Any]) -> dict[str, list[Any]]:
+    """The columns as lists, whatever holds them."""
+    return {name: it.tolist() if hasattr(it, "tolist") else it for name, it in table.items()}
 
 
 @dataclass(frozen=True)

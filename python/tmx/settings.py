@@ -50,10 +50,12 @@ class Settings:
     max_packet: int | None = None
 
     def __post_init__(self) -> None:
-        """Numbers of other types, as those of numpy, become int."""
+        """Values of other types, as those of numpy, become int and bool."""
         for name, among in NUMBERS.items():
             if (value := getattr(self, name)) is not None:
                 object.__setattr__(self, name, number(name, value, among))
+        if getattr(self.error_control, "dtype", None) == bool:
+            object.__setattr__(self, "error_control", bool(self.error_control))
         if self.channels is not None:
             if isinstance(self.channels, (str, bytes, bytearray, memoryview)) or not isinstance(self.channels, Iterable):
                 raise TypeError(f"channels takes a list of numbers, and not {self.channels!r}")

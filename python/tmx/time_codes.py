@@ -125,7 +125,7 @@ class Ticks:
     seconds  how long one is, as a number or a text, "0.001"
     offset   the seconds that are added
 
-    Raises ValueError where a text is no number.
+    Raises ValueError where a text is no number, or a number not finite.
     """
 
     epoch: Epoch
@@ -133,7 +133,7 @@ class Ticks:
     offset: Fraction | int | float | str = 0
 
     def __post_init__(self) -> None:
-        Fraction(self.seconds), Fraction(self.offset)
+        fraction_of(self.seconds), fraction_of(self.offset)
 
     def times(self, name: str, values: Any) -> tuple[Any, int]:
         """The time of each value, rounded down, of floats to microseconds, and how many are none.
@@ -143,10 +143,18 @@ class Ticks:
         numbers = values.tolist() if hasattr(values, "tolist") else list(values)
         if not all(isinstance(it, (int, float)) for it in numbers):
             raise ColumnError(f"the column {name!r} has no numbers, and ticks are numbers: see TimeCode")
-        factor, offset = Fraction(self.seconds) * NANOSECONDS, Fraction(self.offset) * NANOSECONDS
+        factor, offset = fraction_of(self.seconds) * NANOSECONDS, fraction_of(self.offset) * NANOSECONDS
         whole = factor.denominator * offset.denominator
         factors = int(factor * whole), int(offset * whole)
         return times_of((passed_of(it, *factors, whole) for it in numbers), clock_of(self.epoch))
+
+
+def fraction_of(number: Any) -> Fraction:
+    """The value of a number, also of numpy's, or of a text.  Raises TypeError and ValueError where it is none."""
+    try:
+        return Fraction(number.item() if hasattr(number, "item") else number)
+    except ArithmeticError:
+        raise ValueError(f"{number!r} is no number of seconds") from None
 
 
 def passed_of(number: int | float, factor: int, offset: int, whole: int) -> int | None:

@@ -8,7 +8,7 @@ from itertools import product
 from xml.etree.ElementTree import Element
 
 from .decoding import Decoder, Labels, Polynomial, Spline, Text, Timed, Truth
-from .time_codes import Ticks
+from .time_codes import Ticks, fraction_of
 from .xtce_file import Index, XtceError, below, child, children, fixed, integer, local, real, says
 
 MOST = 1000  # fields of a definition
@@ -256,7 +256,7 @@ def ticks(chain: Chain, path: str) -> Ticks:
     if units not in SECONDS:
         raise XtceError(path, f"times in {units} are not read")
     try:
-        scale, offset = (Fraction(encoding.get(*it)) * SECONDS[units] for it in (("scale", "1"), ("offset", "0")))
+        scale, offset = (fraction_of(encoding.get(*it)) * SECONDS[units] for it in (("scale", "1"), ("offset", "0")))
         found = Ticks(EPOCHS.get(said, said), scale, offset)
         found.times(path, [])
         return found

@@ -185,11 +185,21 @@ class TheLossMap(TestCase):
         self.raises(tmx.KilledError, "SIGKILL", example().loss_map)
 
 
+CALLS = """import tmx
+fields = tmx.Recording("pass.rec", "s.toml").fields("d.csv", 101)
+numbers: dict[int, str] = {0: "OFF"}
+ranges: dict[range, str] = {range(1, 3): "COARSE"}
+fields.decoded(labels={"MODE": numbers, "STARS": ranges})
+fields.decoded(labels={"MODE": {0: "OFF", range(1, 3): "COARSE"}})
+"""  # which the types let through
+
+
 class TheTypes(TestCase):
     @needs("mypy")
     def test_mypy(self) -> None:
-        line = [sys.executable, "-m", "mypy", "--strict", "--cache-dir", "cache", str(PACKAGE / "tmx")]
-        ran = subprocess.run(line, capture_output=True, text=True, check=False)
+        Path("calls.py").write_text(CALLS)
+        line = [sys.executable, "-m", "mypy", "--strict", "--cache-dir", "cache", str(PACKAGE / "tmx"), "calls.py"]
+        ran = subprocess.run(line, capture_output=True, text=True, check=False, env=os.environ | {"MYPYPATH": str(PACKAGE)})
         self.assertEqual(ran.returncode, 0, ran.stdout)
 
 

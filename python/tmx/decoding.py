@@ -2,7 +2,7 @@
 
 import math
 from bisect import bisect_right
-from collections.abc import Mapping, Sequence, Set
+from collections.abc import ItemsView, Mapping, Sequence, Set, ValuesView
 from dataclasses import dataclass
 from itertools import compress
 from operator import index
@@ -18,6 +18,14 @@ if TYPE_CHECKING:
     from .fields import Fields
 
 RAW = "_raw"  # how the name of a raw column ends
+
+
+class Names(Protocol):
+    """A Mapping from numbers, ranges, or both to labels."""
+
+    def items(self) -> ItemsView[int | range, str]: ...
+
+    def values(self) -> ValuesView[str]: ...
 
 
 class Decoder(Protocol):
@@ -123,7 +131,7 @@ def is_numbers(raw: Any, kinds: str, types: tuple[type, ...]) -> bool:
 class Labels:
     """The label of each raw value, or of each range of them: the first that has it.  Others have none."""
 
-    labels: Mapping[int | range, str]
+    labels: Names
     type = "label"
 
     def values(self, name: str, raw: Any) -> Any:
@@ -185,7 +193,7 @@ class Timed:
 
 
 def decoders_of(
-    labels: Mapping[str, Mapping[int | range, str]] | None,
+    labels: Mapping[str, Names] | None,
     curves: Mapping[str, Sequence[float] | Polynomial | Spline] | None,
     times: Mapping[str, TimeCode | Ticks] | None,
 ) -> dict[str, Decoder]:

@@ -14,7 +14,7 @@ from itertools import compress
 from typing import IO, Any
 
 from .arrays import single_columns, with_arrays
-from .decoding import Polynomial, Spline, decoded, decoders_of
+from .decoding import Names, Polynomial, Spline, decoded, decoders_of
 from .definition import Column, column_named, long_values, read_definition
 from .errors import ColumnError, DisagreementError, word_behind
 from .lines import ShortPacket, read_lines
@@ -89,7 +89,7 @@ class Fields(Mapping[str, Any]):
     def decoded(
         self,
         *,
-        labels: Mapping[str, Mapping[int | range, str]] | None = None,
+        labels: Mapping[str, Names] | None = None,
         curves: Mapping[str, Sequence[float] | Polynomial | Spline] | None = None,
         times: Mapping[str, TimeCode | Ticks] | None = None,
     ) -> "Fields":

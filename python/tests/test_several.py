@@ -1,13 +1,17 @@
 """Tables of several applications at once, beside those of one after another."""
 
+import csv
 import io
 import os
 import threading
 import unittest
 import warnings
+from contextlib import suppress
 from pathlib import Path
 
 from support import ATTITUDE, DEFINITION, HOUSEKEEPING, RECORDING, SETTINGS, TestCase, example, tmx
+
+from tmx import definition
 
 TIMES = 30  # how often the example comes in a long recording
 BOTH = {101: ATTITUDE, 100: HOUSEKEEPING}
@@ -53,6 +57,21 @@ class Several(TestCase):
             self.assertEqual(Path("report").read_bytes(), Path("wanted.report").read_bytes())
         self.raises(ValueError, None, example().tables, BOTH, rest={102: "REST"})
         self.raises(tmx.FileError, "failed", example().tables, BOTH, report={101: "report", 100: "./report"})
+
+    def test_definitions_that_are_read_at_once(self) -> None:
+        limit, both = csv.field_size_limit(), threading.Barrier(2, timeout=1)
+
+        def hold() -> None:
+            with definition.long_values(), suppress(threading.BrokenBarrierError):
+                both.wait()
+
+        threads = [threading.Thread(target=hold) for _ in range(2)]
+        for it in threads:
+            it.start()
+        for it in threads:
+            it.join()
+        self.assertTrue(both.broken)  # one waits for the other
+        self.assertEqual(csv.field_size_limit(), limit)
 
     def test_errors(self) -> None:
         for recording in (example(), tmx.Recording(io.BytesIO(RECORDING.read_bytes()), SETTINGS)):

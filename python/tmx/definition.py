@@ -9,12 +9,14 @@ import os
 from collections.abc import Iterator, Sequence
 from contextlib import contextmanager
 from dataclasses import dataclass
+from threading import Lock
 
 from .errors import ColumnError
 
 Name = str | os.PathLike[str]
 
 LONGEST_VALUE = 1 << 21  # octets of a value in a CSV
+LIMIT = Lock()  # of one thread at a time, since the limit of the module csv is that of all
 HEADER = 48  # bits of a packet's header, behind which the first field begins
 LEAD = (("tm_record", 32), ("tm_channel", 8), ("tm_apid", 16), ("tm_count", 16))  # with bits that hold the number
 
@@ -22,11 +24,12 @@ LEAD = (("tm_record", 32), ("tm_channel", 8), ("tm_apid", 16), ("tm_count", 16))
 @contextmanager
 def long_values() -> Iterator[None]:
     """Lets values of a CSV be as long as any that the program reads or prints."""
-    before = csv.field_size_limit(LONGEST_VALUE)
-    try:
-        yield
-    finally:
-        csv.field_size_limit(before)
+    with LIMIT:
+        before = csv.field_size_limit(LONGEST_VALUE)
+        try:
+            yield
+        finally:
+            csv.field_size_limit(before)
 
 
 @dataclass(frozen=True, slots=True)

@@ -259,7 +259,7 @@ def read_tables(
             length = kinds.places()[-1]
             if table.rest is not None:
                 table.rest.read(runs, table.definition)
-            tables = tables_of(table, kinds, table.rows(whole_rows(runs, first, length), length, missing), rows)
+            tables = tables_of(table, kinds, table.rows(whole_rows(runs, first, length), length, missing), length, rows)
             last = next(tables)
             for following in tables:
                 yield last
@@ -308,9 +308,8 @@ def report_file(table: Table, source: Source, settings: Name | Settings) -> Iter
 # Rows.
 
 
-def tables_of(table: Table, kinds: Kinds, pieces: Iterable[bytes], rows: int | None) -> Iterator[Fields]:
-    """Tables of so many rows; without a number one of all.  Only the first may have none."""
-    length = kinds.places()[-1]
+def tables_of(table: Table, kinds: Kinds, pieces: Iterable[bytes], length: int, rows: int | None) -> Iterator[Fields]:
+    """Tables of so many rows, each of so many octets; without a number one of all.  Only the first may have none."""
     done, kept, most = 0, bytearray(), None if rows is None else rows * length
 
     for piece in pieces:

@@ -77,19 +77,14 @@ class Settings:
         return self.skip_before + self.frame_length + self.skip_after
 
     def toml(self) -> str:
-        """The text of a settings file.  Keys that have their default are left out."""
+        """The text of a settings file, whose values are spelled as in JSON.  Keys that have their default are left out."""
         said = ((it.name, getattr(self, it.name)) for it in fields(self) if getattr(self, it.name) != it.default)
-        return "".join(f"{key} = {spelled(value)}\n" for key, value in said if value is not None)
+        return "".join(f"{key} = {json.dumps(value)}\n" for key, value in said if value is not None)
 
     def write(self, path: str | os.PathLike[str]) -> None:
         """Writes a settings file."""
         with open(path, "w", encoding="utf-8") as file:
             file.write(self.toml())
-
-
-def spelled(value: object) -> str:
-    """A value as TOML has it.  Numbers, words, lists and truth are spelled as in JSON."""
-    return json.dumps(list(value) if isinstance(value, (tuple, set, frozenset, range)) else value)
 
 
 @contextmanager

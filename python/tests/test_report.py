@@ -356,6 +356,7 @@ class Recordings(ReportCase):
         Path("pass.rec").write_bytes(made(plan_of("0 0")))
         Path("s.toml").write_text(HERE)
         Path("wrong.toml").write_text("spacecraft = 42\nframe_length = 32\n")
+        Path("newer.toml").write_text(HERE + 'ocf = "\\x66lag"\n')
         Path("d.csv").write_text("name,data_type,bit_length\nA,uint,32\n")
         Path("folder").mkdir()
         for words, status, said in (
@@ -363,6 +364,7 @@ class Recordings(ReportCase):
             ("--settings s.toml nowhere", 1, "tmx: nowhere: failed\n  the recording nowhere: no such file"),
             ("--settings nowhere pass.rec", 1, "tmx: nowhere: failed\n  the settings nowhere: no such file"),
             ("--settings wrong.toml pass.rec", 1, "tmx: settings: missing error_control"),
+            ("--settings newer.toml pass.rec", 1, "tmx: settings: toml\n  the settings newer.toml: Python reads TOML 1.0 alone"),
             ("--settings s.toml --report pass.rec pass.rec", 1, "tmx: pass.rec: failed\n  pass.rec would be written over pass.rec"),
             ("--settings s.toml --report s.toml pass.rec", 1, "tmx: s.toml: failed"),
             (f"--settings s.toml --report d.csv {ON_BOARD} pass.rec", 1, "d.csv would be written over d.csv"),

@@ -21,7 +21,7 @@ from typing import Any
 
 from .checkpoints import Name, NewFile
 from .damage import Damage, Span, records_of
-from .errors import DisagreementError, ProgramError
+from .errors import DisagreementError, ProgramError, SettingsError
 from .lines import (
     REPORT,
     ApplicationCounts,
@@ -37,10 +37,10 @@ from .lines import (
 )
 from .loss_map import Columns, Lines, draw, read_report
 from .loss_times import Measured, MeasuredTimes, NoTimes, Receipt, ReceiptTimes, Times, utc
+from .notes import settings_of
 from .programs import VERSION, program
 from .recording import Recording
 from .runs import Command, line_blocks, running
-from .settings import Settings
 from .source import Source, refuse_to_overwrite
 from .summary import Summary
 
@@ -418,7 +418,7 @@ def report_part(losses: Losses, file: Name | None, times: Times) -> ReportPart:
 def find(given: str, settings_file: str, asked: Asked) -> tuple[Findings, str]:
     """What is said of a recording, `-` being standard input, and the map of its losses.
 
-    Raises what the program refuses, TimeError, DisagreementError and OSError.
+    Raises what the program refuses, SettingsError for TOML 1.1, TimeError, DisagreementError and OSError.
     """
     if asked.report is not None:
         definition = asked.times.definition if isinstance(asked.times, Measured) else None
@@ -426,7 +426,10 @@ def find(given: str, settings_file: str, asked: Asked) -> tuple[Findings, str]:
     with ExitStack() as files:
         path, rules = (files.enter_context(regular_file(it)) for it in (given, settings_file))
         recording = Recording(path, rules)
-        summary, settings = recording.summary(), Settings.read(rules)
+        summary, settings = recording.summary(), settings_of(rules)
+        if settings is None:
+            why = f"the settings {settings_file}: Python reads TOML 1.0 alone"
+            raise SettingsError("tmx: settings: toml", 2, "toml", why, settings_file)
         times: Times = NoTimes()
         if isinstance(asked.times, Receipt):
             times = ReceiptTimes(path, settings, asked.times)

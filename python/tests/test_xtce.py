@@ -355,6 +355,8 @@ class System(TestCase):
         found = table(one(TIME.format("", U32, "<Epoch>UNIX</Epoch>")), bytes(4), b"\0\0\0\x01")
         self.assertEqual(dates(found.time), [datetime(1970, 1, 1), datetime(1970, 1, 1, 0, 0, 1)])
         self.assertEqual(plain(found["A_raw"]), [0, 1])
+        before = written(one(TIME.format("", U32, "<Epoch>0001-01-01T00:00:00+10:00</Epoch>")))
+        self.assertEqual(before.refusals(), {})
 
     def test_bad_times_of_other_rows(self) -> None:
         wide = TIME.format("", U32.replace("32", "64"), "<Epoch>UNIX</Epoch>")

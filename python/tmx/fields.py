@@ -267,7 +267,8 @@ def read_tables(
             if table.rest is not None:
                 table.rest.finish()
             runs.finish()
-        with open(report, "rb") as lines:
+        with open(report, "ab+") as lines:
+            lines.seek(0)
             last.short_lines = list(table.short_lines(lines, missing))
     if reads_all(table.step):
         warn_of_missing(table, runs, settings, last.is_empty(), missing)

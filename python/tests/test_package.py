@@ -185,7 +185,12 @@ class TheLossMap(TestCase):
         self.raises(tmx.KilledError, "SIGKILL", example().loss_map)
 
 
-CALLS = """import tmx
+CALLS = """import bz2, gzip, io
+import tmx
+for stream in (gzip.open("pass.rec.gz"), bz2.open("pass.rec.bz2"), open("pass.rec", "rb"), io.BytesIO()):
+    tmx.Recording(stream, "s.toml")
+tmx.Recording(gzip.open("pass.rec.gz"), "s.toml")
+tmx.Recording(tmx.cut("raw.bin", length=256), "s.toml")
 fields = tmx.Recording("pass.rec", "s.toml").fields("d.csv", 101)
 numbers: dict[int, str] = {0: "OFF"}
 ranges: dict[range, str] = {range(1, 3): "COARSE"}

@@ -41,7 +41,7 @@ from .runs import Command, running, single_lines, whole_lines
 from .settings import Settings
 from .several import Read, side_by_side
 from .skipped import array_of, skipped, table_of
-from .source import Source, refuse_to_overwrite
+from .source import Source, Stream, refuse_to_overwrite
 from .steps import Job, follow, reads_all, report_words, step_words
 from .summary import Summary, summary_of
 from .times import Epoch
@@ -65,7 +65,7 @@ class Recording:
     that is there, else as a line.  A function is told the octets that were read, and how many there are, or None.
     """
 
-    def __init__(self, recording: Name | IO[bytes], settings: Name | Settings) -> None:
+    def __init__(self, recording: Name | Stream, settings: Name | Settings) -> None:
         self.source = Source(recording)
         self.settings = settings
 

@@ -5,11 +5,17 @@ import io
 import os
 import stat
 import sys
-from typing import IO, Any
+from typing import Any, Protocol
 
 from .errors import ConsumedError, FileError
 
 BLOCK = 1 << 17  # octets that are fed at once
+
+
+class Stream(Protocol):
+    """A binary stream, as a file, `gzip.open` and `tmx.cut` give it."""
+
+    def read(self, most: int, /) -> bytes: ...
 
 
 class Source:
@@ -19,7 +25,7 @@ class Source:
     stream  the stream, while a run reads it; None for a file.  What is named and is no file, as a pipe, is a stream too
     """
 
-    def __init__(self, recording: str | os.PathLike[str] | IO[bytes]) -> None:
+    def __init__(self, recording: str | os.PathLike[str] | Stream) -> None:
         self.given: Any = os.fspath(recording) if isinstance(recording, (str, os.PathLike)) else recording
         if not isinstance(self.given, str) and not hasattr(self.given, "read"):
             raise TypeError(f"a recording is the name of a file, or a binary stream, and not {type(recording).__name__}")

@@ -165,7 +165,6 @@ class Commands(TestCase):
             (["follow", *rules, "--interval", "1e300", RECORDING, "steps"], "--interval takes seconds from 0 to "),
             (["follow", *rules, "", "steps"], "the recording has no name"),
             (["watch", *rules, ""], "the recording has no name"),
-            (["report", *rules, "--receipt", "0:cds8", "--epoch", "0001-01-01T00:00+10:00", RECORDING], ""),
         ):
             status, said = command(*words)
             self.assertEqual((status, said.splitlines()[-1].partition("error: ")[2].startswith(says)), (2, True), said)

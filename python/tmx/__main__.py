@@ -201,7 +201,7 @@ def report_words(parser: argparse.ArgumentParser) -> None:
 def write_report(words: argparse.Namespace, parser: argparse.ArgumentParser) -> None:
     try:
         times = times_wanted(words.receipt, words.time, words.definition, words.apid, words.channel, words.epoch)
-    except (ValueError, OverflowError) as error:
+    except ValueError as error:
         parser.error(str(error))
     asked = Asked(words.title, words.station, words.pass_, words.report, times)
     found, svg = find(words.recording, words.settings, asked)

@@ -91,7 +91,8 @@ class Refused(TestCase):
         self.folder.joinpath("a.rec").write_bytes(RECORDING.read_bytes())
         self.folder.joinpath("a.toml").write_bytes(SETTINGS.read_bytes())
         list(example().packets(checkpoint="day.chk", stop_after=100))
-        os.link("a.rec", "b.rec")
+        for name in ("b.rec", "apid-0100.pkt"):
+            os.link("a.rec", name)
         files = {it.name: it.read_bytes() for it in self.folder.iterdir()}
         file = self.enterContext(open("a.rec", "rb"))
         for given, name in product(("a.rec", file), ("a.rec", "b.rec", "a.toml")):
@@ -108,6 +109,7 @@ class Refused(TestCase):
         for given, option in product((file, tmx.cut("a.rec", length=256), tmx.cut(file, length=256)), ("report", "checkpoint")):
             recording, how = tmx.Recording(given, "a.toml"), {option: "b.rec"}
             self.raises(tmx.FileError, "failed", recording.extract, "b.rec")
+            self.raises(tmx.FileError, "failed", recording.split, ".")
             self.raises(tmx.FileError, "failed", recording.extract, "new.pkt", **how)
             self.raises(tmx.FileError, "failed", recording.split, ".", **how)
             self.raises(tmx.FileError, "failed", recording.fields, ATTITUDE, 101, **how)

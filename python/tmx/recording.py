@@ -400,6 +400,8 @@ class Recording:
         """
         words = report_words(report) + step_words(checkpoint, resume, stop_after)
         os.makedirs(folder, exist_ok=True)
+        for apid in APPLICATIONS if self.source.path is None else ():  # the program compares files with names
+            refuse_to_overwrite(os.path.join(folder, f"apid-{apid:04}.pkt"), self.source.file)
         self.run(Command(["split", "--dir", os.fspath(folder), *words], "end"), progress)
 
     def run(self, command: Command, progress: Progress) -> None:

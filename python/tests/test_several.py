@@ -56,6 +56,7 @@ class Several(TestCase):
             self.assertTrue(same(tables[101], stars))
             self.assertEqual(Path("report").read_bytes(), Path("wanted.report").read_bytes())
         self.raises(ValueError, None, example().tables, BOTH, rest={102: "REST"})
+        self.raises(TypeError, None, example().tables, [101])
         self.raises(tmx.FileError, "failed", example().tables, BOTH, report={101: "report", 100: "./report"})
 
     def test_definitions_that_are_read_at_once(self) -> None:

@@ -292,6 +292,8 @@ class Recording:
         `arrays`, `rest` and `report` are those of `fields` by application, and the other words those of `fields`, for all tables.
         Raises what `fields` does, and ValueError where an application has no definition.
         """
+        if not hasattr(definitions, "items"):
+            raise TypeError(f"`tables` takes a definition for each application, and not {definitions!r}")
         wanted = {number("apid", apid, APPLICATIONS): definition for apid, definition in definitions.items()}
         how: dict[str, Any] = {"channel": channel, "time": time, "epoch": epoch, "encoding": encoding, "errors": errors}
         single: dict[str, Mapping[int, Any]] = {"arrays": arrays or {}, "rest": rest or {}, "report": report or {}}

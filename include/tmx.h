@@ -40,7 +40,8 @@ enum tmx_command {
 /* How a call ended. */
 enum tmx_status {
     TMX_DONE = 0,        /* it was done, and each room was large enough */
-    TMX_ROOM = 1,        /* it was done, but a room was too small: the lengths of the answer tell which, and how much is enough */
+    TMX_ROOM = 1,        /* a buffer is too small. tmx_run did its work: the lengths of the answer tell which buffer, and how much is enough.
+                            A job did nothing: tmx_job_most tells how much is enough */
     TMX_COMMAND = 2,     /* there is no such command */
     TMX_SETTINGS = 3,    /* the settings are refused: fault is an enum tmx_settings_fault, key the key that it is about */
     TMX_CHECKPOINT = 4,  /* the checkpoint is refused: fault is an enum tmx_checkpoint_fault */
@@ -50,7 +51,7 @@ enum tmx_status {
     TMX_APPLICATION = 8, /* an application is none: they have numbers up to 2047 */
     TMX_WHOLE = 9,       /* the summary was asked of a part: it takes the whole recording in one call */
     TMX_LONG = 10,       /* the settings, the definition or the checkpoint has over TMX_INPUT_MOST octets: fault is an enum tmx_input */
-    TMX_MORE = 11,       /* a job stopped where a room may be too small for what comes next: call again, with rooms that are empty */
+    TMX_MORE = 11,       /* a job stopped where what is left of a buffer may be too small for what comes next: read both, and call again */
     TMX_CLOSED = 12,     /* the end of the recording was told: the job takes no more octets */
     TMX_JOB = 13         /* there is no job: it is NULL */
 };
@@ -263,8 +264,8 @@ struct tmx_event {
     uint8_t why;          /* the number of the reason */
 };
 
-/* A call of a job without rows always goes on in a room of so many events, and of so many octets: these are the most that one record gives.
-   Where the settings have a `max_packet`, so many octets and 2041 more are enough. tmx_job_most says it of any job. */
+/* The most events, and the most octets, that one record gives in a job without rows. Where the settings have a `max_packet`, its number of
+   octets and 2041 more are enough. tmx_job_most tells it of any job: take the size of buffers from there. */
 enum { TMX_EVENTS_MOST = 1170, TMX_OCTETS_MOST = 67583 };
 
 /* Room for what a call gives. Each call fills both from the beginning. */
@@ -308,12 +309,14 @@ uint32_t tmx_job_row_length(const tmx_job *job, uint16_t application);
 uint32_t tmx_job_most(const tmx_job *job, size_t *events, size_t *octets);
 
 /* Takes the next octets of the recording, cut anywhere: the job keeps the part of a record that isn't whole. Returns the status. With TMX_DONE
-   all octets are taken. With TMX_MORE `used` of them are: read both rooms, and hand in the others again. With TMX_TOO_MANY 4294967295 records
-   are done. It takes no memory. */
+   all octets are taken. With TMX_MORE the first `used` of them are, at least one: read both buffers, and pass the others again. With TMX_ROOM
+   none is: the octets make a record whole, and a buffer as a whole is smaller than tmx_job_most says. With TMX_TOO_MANY the job has taken
+   4294967295 records, and another one follows. The call takes no memory. */
 uint32_t tmx_job_feed(tmx_job *job, const uint8_t *octets, size_t length, struct tmx_room *room, struct tmx_progress *progress);
 
-/* Tells the end of the recording: what is unfinished. With TMX_DONE all is told; with TMX_MORE read the room, and call again. The first call
-   needs room for TMX_EVENTS_MOST events; in less it does nothing. After it the job takes no more octets. It takes no memory. */
+/* Tells the end of the recording: what is unfinished. With TMX_DONE all is told. With TMX_MORE the buffer is full, with at least one event:
+   read it, and call again. With TMX_ROOM the call did nothing: the first call needs a buffer of TMX_EVENTS_MOST events, and each later one a
+   buffer of one event. After the first call that does something the job takes no more octets. The call takes no memory. */
 uint32_t tmx_job_end(tmx_job *job, struct tmx_room *room, struct tmx_progress *progress);
 
 /* Writes the line that the program prints of an event; of a packet it is that of `tmx packets`. It ends with a 0, and is cut where the room ends:

@@ -438,6 +438,22 @@ static void definitions(tmx_job *job, const uint8_t *longest, size_t length) {
     if (tmx_job_most(job, &events, &octets) != TMX_DONE || events != TMX_EVENTS_MOST + 292 || octets != without + 292 * 24) puts("rooms with rows");
 }
 
+/* Rooms that were large enough before the job had a definition, and the least that are so with it: the first ones are refused in each call. */
+static void rooms_for_rows(tmx_job *job, struct octets recording) {
+    static const uint8_t definition[] = "name,data_type,bit_length\nA,uint,1\n";
+    struct tmx_room room = {malloc(1462 * sizeof(struct tmx_event)), 1170, malloc(880 + 2041 + 292 * 17), 880 + 2041};
+    struct tmx_progress did;
+    struct tmx_error error;
+    if (room.events == NULL || room.octets == NULL || tmx_job_fields(job, 100, definition, sizeof definition - 1, &error) != TMX_DONE) puts("no rooms for rows");
+    for (int k = 0; k < 3; k++) answered("rooms without the rows", tmx_job_feed(job, recording.at, recording.length, &room, &did), TMX_ROOM, did, 0, 0);
+    room.events_room = 1462;
+    answered("octets without the rows", tmx_job_feed(job, recording.at, recording.length, &room, &did), TMX_ROOM, did, 0, 0);
+    room.octets_room = 880 + 2041 + 292 * 17;
+    if (tmx_job_feed(job, recording.at, recording.length, &room, &did) != TMX_MORE || did.used == 0) puts("rooms for the rows");
+    free(room.events);
+    free(room.octets);
+}
+
 static int jobs(struct octets settings, struct octets recording) {
     static const uint8_t wrong[40] = "no checkpoint";
     static struct tmx_event events[TMX_EVENTS_MOST];
@@ -462,10 +478,10 @@ static int jobs(struct octets settings, struct octets recording) {
     record = tmx_job_record_length(job);
     answered("nothing", tmx_job_feed(job, NULL, 0, &none_at_all, &did), TMX_DONE, did, 0, 0);
     answered("a part of a record, without room", tmx_job_feed(job, recording.at, record - 1, &none_at_all, &did), TMX_DONE, did, record - 1, 0);
-    answered("the rest of it, without room", tmx_job_feed(job, recording.at + record - 1, 1, &none_at_all, &did), TMX_MORE, did, 0, 0);
+    answered("the rest of it, without room", tmx_job_feed(job, recording.at + record - 1, 1, &none_at_all, &did), TMX_ROOM, did, 0, 0);
     room.events_room--;
-    answered("the rest of it, with one event too few", tmx_job_feed(job, recording.at + record - 1, 1, &room, &did), TMX_MORE, did, 0, 0);
-    answered("the end, with one event too few", tmx_job_end(job, &room, &did), TMX_MORE, did, 0, 0);
+    answered("the rest of it, with one event too few", tmx_job_feed(job, recording.at + record - 1, 1, &room, &did), TMX_ROOM, did, 0, 0);
+    answered("the end, with one event too few", tmx_job_end(job, &room, &did), TMX_ROOM, did, 0, 0);
     room.events_room++;
     if (tmx_job_checkpoint(job, NULL, 0, &length) != TMX_ROOM || tmx_job_checkpoint(job, kept, length - 1, &length) != TMX_ROOM
         || tmx_job_checkpoint(job, kept, length, &length) != TMX_DONE || tmx_job_records(job) != 0) puts("a checkpoint");
@@ -475,6 +491,9 @@ static int jobs(struct octets settings, struct octets recording) {
     tmx_job_free(job);
     if (tmx_job_new(&job, settings.at, settings.length, &error) != TMX_DONE) return 6;
     definitions(job, longest, sizeof longest);
+    tmx_job_free(job);
+    if (tmx_job_new(&job, settings.at, settings.length, &error) != TMX_DONE) return 6;
+    rooms_for_rows(job, recording);
     tmx_job_free(job);
     return 0;
 }

@@ -39,7 +39,7 @@ strict_trial() {
 strict() {
     # guards: totals-count-what-a-run-gave-and-lost
     # guards: each-number-is-a-count-over-whole-lists
-    # guards: done-tells-what-a-run-gave-and-lost
+    # guards: run_and_count-and-split_and_count-tell-what-a-run-gave-and-lost
     # guards: with---strict-the-status-says-what-was-lost
     local settings kind octets seed record application known=0 counted=()
     make_settings

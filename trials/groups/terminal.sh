@@ -6,7 +6,7 @@ terminal() {
     # guards: devices-over-stds-readers-and-writers
     # guards: settingsread-gives-the-settings-or-the-refusal
     # guards: read_checkpoint-reads-versions-1-2-and-3
-    # guards: done-tells-what-a-run-gave-and-lost
+    # guards: run_and_count-and-split_and_count-tell-what-a-run-gave-and-lost
     # guards: a-second-line-comes-only-where-it-is-wanted
     # guards: which-faults-are-explained
     # guards: which-file-is-blamed

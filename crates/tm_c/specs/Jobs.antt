@@ -18,7 +18,7 @@ use Rattle.tm_feed.specs.declared.event.Event.{Event}
 use Rattle.tm_feed.specs.declared.job.EndProgress.TheVariants.{Open}
 use Rattle.tm_feed.specs.declared.job.Fed.{Fed}
 use Rattle.tm_feed.specs.declared.job.StopReason.{StopReason}
-use Rattle.tm_feed.specs.declared.job.StopReason.TheVariants.{Done, Room, TooMany, Closed}
+use Rattle.tm_feed.specs.declared.job.StopReason.TheVariants.{Done, Room, TooSmall, TooMany, Closed}
 use Rattle.tm_c.specs.declared.structs.TmxAnswer.{TmxAnswer}
 use Rattle.tm_c.specs.declared.structs.TmxOpening.{TmxOpening}
 use Rattle.tm_c.specs.declared.structs.TmxProgress.{TmxProgress}
@@ -124,6 +124,7 @@ AreMost (Some job) events octets status =
 abbrev pub stop_status : StopReason → ℕ
 stop_status Done = 0
 stop_status Room = 11
+stop_status TooSmall = 1
 stop_status TooMany = 5
 stop_status Closed = 12
 

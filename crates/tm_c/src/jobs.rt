@@ -244,6 +244,7 @@ fn stop_status(stop: StopReason) -> u32
     match stop {
         StopReason::Done => 0,
         StopReason::Room => 11,
+        StopReason::TooSmall => 1,
         StopReason::TooMany => 5,
         StopReason::Closed => 12,
     }

@@ -2,6 +2,7 @@ pub mod SinkLemmas
 pub mod TakeLemmas
 pub mod RoomLemmas
 pub mod FeedLemmas
+pub mod FeedEnds
 pub mod EndLemmas
 pub mod CallLemmas
 pub mod OnlyLemmas

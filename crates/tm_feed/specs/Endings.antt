@@ -41,9 +41,17 @@ pub record GivesEnd (old new : FeedState) (count : ℕ) (events : List Event) : 
   pub all : end_events old ≡ given ++ end_events new
   pub same : new ≡ record old { end = new.end }
 
--- why it gave no more, in a room of this many events: all are given; or the room is full; or it is too small to begin
+-- a room of this many events is too small for what comes next of the end
+abbrev pub IsSmallForEnd : EndProgress → ℕ → Type 0
+IsSmallForEnd end.Open room = room < events_most
+IsSmallForEnd (end.Groups key) room = room ≡ 0
+IsSmallForEnd end.Told room = ⊥
+
+-- Why it gave no more, in a room of this many events. All are given. Or the room is full of events. Or it is too small, and nothing was
+-- given.
 abbrev pub EndedBy : FeedState → FeedState → ℕ → ℕ → StopReason → Type 0
 EndedBy old new count room stop.Done = new.end ≡ end.Told
-EndedBy old new count room stop.Room = (count ≡ room) ⊎ ((room < events_most) × (new ≡ old) × (count ≡ 0))
+EndedBy old new count room stop.Room = (count ≡ room) × (0 < count)
+EndedBy old new count room stop.TooSmall = IsSmallForEnd old.end room × (new ≡ old) × (count ≡ 0)
 EndedBy old new count room stop.TooMany = ⊥
 EndedBy old new count room stop.Closed = ⊥

@@ -1,5 +1,5 @@
 -- What a job that is fed gives of the octets that come next.
-use Rattle.std.specs.Prelude.{◌≡◌, ◌≢◌, ◌<◌, ◌≤◌, ◌⊎◌, ℕ, ◌+◌, ◌*◌, ◌==◌, if◌then◌else◌, Bool, List, [], ◌++◌, length, take, true, replicate, Result, Ok, Err}
+use Rattle.std.specs.Prelude.{◌≡◌, ◌≢◌, ◌<◌, ◌≤◌, ◌⊎◌, ℕ, ◌+◌, ◌-◌, ◌*◌, ◌==◌, if◌then◌else◌, Bool, List, [], ◌++◌, length, take, true, replicate, Result, Ok, Err}
 use Rattle.tm_frame.specs.Layout.{most_records, record_length_of}
 use Rattle.tm_faults.specs.declared.run.CheckpointFault.{CheckpointFault}
 use Rattle.tm_checkpoint.specs.Works.{JobState, Work}
@@ -9,7 +9,7 @@ use Rattle.tm_feed.specs.declared.event.Event.{Event}
 use Rattle.tm_feed.specs.declared.job.EndProgress.TheVariants.{Open}
 use Rattle.tm_feed.specs.declared.job.Fed.{Fed}
 use Rattle.tm_feed.specs.declared.job.StopReason.{StopReason}
-use Rattle.tm_feed.specs.declared.job.StopReason.TheVariants.{Done, Room, TooMany, Closed}
+use Rattle.tm_feed.specs.declared.job.StopReason.TheVariants.{Done, Room, TooSmall, TooMany, Closed}
 use Rattle.tm_feed.specs.Feeding.{events_of, packed_octets}
 use Rattle.tm_feed.specs.States.{Chosen, FeedState}
 
@@ -66,6 +66,10 @@ abbrev pub IsFull : (limit longest : ℕ) → ℕ → ℕ → ℕ → ℕ → Ty
 IsFull limit longest event_room events octet_room octets =
     (event_room < events + all_events_most longest) ⊎ (octet_room < octets + octets_most limit longest)
 
+-- rooms as a whole are too small for what a record may give
+abbrev pub AreSmall : (limit longest : ℕ) → ℕ → ℕ → Type 0
+AreSmall limit longest event_room octet_room = IsFull limit longest event_room 0 octet_room 0
+
 -- the packets of all applications are given
 unfoldable pub all_given : List Bool
 all_given = replicate 2048 true
@@ -84,15 +88,31 @@ pub record IsFed (old new : FeedState) (octets : List ℕ) (did : Fed) (events :
   pub gave : StandsIn events did.events (fed_events 0 old octets)
   pub packed : StandsIn packets did.octets (fed_octets old octets)
 
--- why a call took no more of `count` octets
+-- with this many octets more the job's next record is whole
+abbrev pub MakesWhole : FeedState → ℕ → Type 0
+MakesWhole job more = record_size job.work ≤ length job.part + more
+
+-- a call did nothing, for this reason
+abbrev pub nothing_fed : StopReason → Fed
+nothing_fed stop = record { used = 0; events = 0; octets = 0; stop = stop }
+
+-- Why a call took no more of `count` octets. All are taken. Or those that are left make a record whole, but after a record was taken too
+-- little may be left of a room. Or a room as a whole may be too small, and the call did nothing. Or as many records are done as can be
+-- counted. Or the recording was closed, and the call did nothing.
 abbrev pub StoppedBy : FeedState → FeedState → ℕ → Fed → ℕ → ℕ → StopReason → Type 0
 StoppedBy old new count did event_room octet_room Done = (old.end ≡ Open) × (did.used ≡ count)
 StoppedBy old new count did event_room octet_room Room =
-    (old.end ≡ Open) × IsFull new.work.rules.max_packet new.chosen.longest event_room did.events octet_room did.octets
-StoppedBy old new count did event_room octet_room TooMany = (old.end ≡ Open) × (new.work.state.records ≡ most_records)
+    (old.end ≡ Open) × (0 < did.used) × MakesWhole new (count - did.used)
+    × IsFull new.work.rules.max_packet new.chosen.longest event_room did.events octet_room did.octets
+StoppedBy old new count did event_room octet_room TooSmall =
+    (old.end ≡ Open) × MakesWhole old count × AreSmall old.work.rules.max_packet old.chosen.longest event_room octet_room
+    × (new ≡ old) × (did ≡ nothing_fed TooSmall)
+StoppedBy old new count did event_room octet_room TooMany =
+    (old.end ≡ Open) × MakesWhole new (count - did.used) × (new.work.state.records ≡ most_records)
 StoppedBy old new count did event_room octet_room Closed =
-    (old.end ≢ Open) × (new ≡ old) × (did ≡ record { used = 0; events = 0; octets = 0; stop = Closed })
+    (old.end ≢ Open) × (new ≡ old) × (did ≡ nothing_fed Closed)
 
+-- why a call stopped
 abbrev pub IsStopped : FeedState → FeedState → ℕ → Fed → ℕ → ℕ → Type 0
 IsStopped old new count did event_room octet_room = StoppedBy old new count did event_room octet_room did.stop
 

@@ -1,4 +1,5 @@
 pub mod Choices
 pub mod Sinking
 pub mod Taking
+pub mod Feeds
 pub mod Groups

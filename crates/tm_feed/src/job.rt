@@ -20,8 +20,10 @@ use tm_tool::NoMemory;
 pub enum StopReason {
     /// All are taken.
     Done,
-    /// A room may be too small for what the next record gives.
+    /// What is left of a room may be too small for what the next record gives: in rooms that are emptied the call goes on.
     Room,
+    /// A room as a whole may be too small for what the next record gives.
+    TooSmall,
     /// As many records are done as can be told.
     TooMany,
     /// The recording was closed.
@@ -49,6 +51,23 @@ pub struct Fed {
     pub octets: usize,
     /// Why it took no more.
     pub stop: StopReason,
+}
+
+impl Fed {
+    ghost use Rattle.std.specs.Prelude.{◌≡◌};
+    ghost use Rattle.tm_feed.specs.Jobs.{nothing_fed};
+
+    // Nothing was done, for this reason.
+    fn nothing(stop: StopReason) -> Fed
+        ensures { result ≡ nothing_fed stop }
+    {
+        Fed {
+            used: 0,
+            events: 0,
+            octets: 0,
+            stop,
+        }
+    }
 }
 
 /// A job that is fed with the octets of a recording. It keeps the part of a record that isn't whole.
@@ -81,13 +100,14 @@ impl Model for FedJob {
 }
 
 impl FedJob {
-    ghost use Rattle.std.specs.Prelude.{◌≡◌, ◌≢◌, ◌<◌, ◌≤◌, Err, length, take, IfOk, IfErr, OnOk, OnErr};
+    ghost use Rattle.std.specs.Prelude.{◌≡◌, ◌≢◌, ◌<◌, ◌≤◌, ◌+◌, true, false, Err, length, take, IfOk, IfErr, OnOk, OnErr};
     ghost use Rattle.tm_checkpoint.specs.Works.{IsGoing, new_job, work_of};
     ghost use Rattle.tm_checkpoint.specs.Checkpoints.{checkpoint_of, resumed};
     ghost use Rattle.tm_feed.specs.Endings.{EndedBy, GivesEnd};
     ghost use Rattle.tm_feed.specs.Choosing.{GivesRows, row_length_for};
-    ghost use Rattle.tm_feed.specs.Jobs.{IsFed, GoesOnFrom, IsStopped, all_events_most, new_feed, octets_most, record_size};
+    ghost use Rattle.tm_feed.specs.Jobs.{AreSmall, IsFed, GoesOnFrom, IsStopped, MakesWhole, all_events_most, new_feed, octets_most, record_size};
     ghost use Rattle.tm_feed.specs.Only.{GivesOnly, IsNoApplication};
+    ghost use Rattle.tm_feed.specs.code.Feeds.{LeavesRecord};
 
     // With a reassembly and its tracker, and no octets of a further record.
     fn with(alloc: Global, reassembly: Reassembly, tracker: Tracker) -> Result<FedJob, AllocError>
@@ -202,23 +222,56 @@ impl FedJob {
         )
     }
 
+    // Whether rooms as a whole may be too small for what a record gives.
+    fn are_small(&self, event_room: usize, octet_room: usize) -> bool
+        ensures small { result ≡ true → AreSmall self.now.work.rules.max_packet self.now.chosen.longest event_room octet_room }
+        ensures large { result ≡ false → AreSmall self.now.work.rules.max_packet self.now.chosen.longest event_room octet_room → ⊥ }
+    {
+        let (events, octets) = self.most();
+        event_room < events || octet_room < octets
+    }
+
+    // Whether octets that come make the next record whole.
+    fn makes_whole(&self, octets: &[u8]) -> bool
+        ensures whole { result ≡ true → MakesWhole self.now (length octets.now) }
+        ensures part { result ≡ false → length self.now.part + length octets.now < record_size self.now.work }
+    {
+        self.reassembly.layout().record_length() - self.part.len() <= octets.len()
+    }
+
     /// Takes the octets that follow those that earlier calls took, record by record. It gives their events, and the octets of their packets and
     /// rows, each in a room from its beginning on. It takes all octets, or stops before a record for whose events a room may be too small.
-    /// Rooms as large as `most` says hold those of any record: without rows these are 1,170 events and `max_packet` + 2,041 octets.
+    /// Rooms as large as `most` says hold those of any record: without rows these are 1,170 events and `max_packet` + 2,041 octets. In
+    /// smaller ones no record is taken: the answer is `TooSmall` where the octets make one whole. In such rooms or larger ones `Room` is
+    /// answered only after a record was taken.
+    #[tactic(auto, using(crate::proofs::FeedEnds::stopped_open))]
     pub fn feed(&mut self, octets: &[u8], events: &mut [Event], packets: &mut [u8]) -> Fed
         ensures fed { self.old.end ≡ EndProgress.Open
             → IsFed self.old self.new (take result.used octets.now) result events.new packets.new }
         ensures within { result.used ≤ length octets.now }
         ensures stopped { IsStopped self.old self.new (length octets.now) result (length events.new) (length packets.new) }
+        ensures small { self.old.end ≡ EndProgress.Open → MakesWhole self.old (length octets.now)
+            → AreSmall self.old.work.rules.max_packet self.old.chosen.longest (length events.new) (length packets.new)
+            → result.stop ≡ StopReason.TooSmall }
     {
         let EndProgress::Open = self.end else {
-            return Fed {
-                used: 0,
-                events: 0,
-                octets: 0,
-                stop: StopReason::Closed,
-            };
+            return Fed::nothing(StopReason::Closed);
         };
+        if self.are_small(events.len(), packets.len()) && self.makes_whole(octets) {
+            return Fed::nothing(StopReason::TooSmall);
+        }
+        self.feed_open(octets, events, packets)
+    }
+
+    // Takes octets as `feed` does where the recording isn't closed, in rooms of any size.
+    fn feed_open(&mut self, octets: &[u8], events: &mut [Event], packets: &mut [u8]) -> Fed
+        requires { self.old.end ≡ EndProgress.Open }
+        ensures fed { IsFed self.old self.new (take result.used octets.now) result events.new packets.new }
+        ensures within { result.used ≤ length octets.now }
+        ensures done { result.stop ≡ StopReason.Done → result.used ≡ length octets.now }
+        ensures stopped { result.stop ≢ StopReason.Done
+            → LeavesRecord self.new (length octets.now) result (length events.new) (length packets.new) result.stop }
+    {
         let mut sink = EventSink {
             tracker: &mut self.tracker,
             choice: &mut self.choice,
@@ -237,8 +290,9 @@ impl FedJob {
     }
 
     /// Closes the recording, and gives what is left then. That is the short record, if octets of one are there, and the tails that are held. Then
-    /// come the groups that are open, by rising key. Where the room is too small for all of them the next call goes on. Before any of it a
-    /// room of 1,170 events is wanted. Answers how many events it gave, and `Done` where all are given.
+    /// come the groups that are open, by rising key. Where the room is too small for all of them the next call goes on. The first call wants
+    /// a room of 1,170 events, and later ones a room of one: in a smaller one nothing is given, and the answer is `TooSmall`. Answers how
+    /// many events it gave, and `Done` where all are given.
     pub fn end(&mut self, events: &mut [Event]) -> (usize, StopReason)
         ensures gave { GivesEnd self.old self.new result.0 events.new }
         ensures stopped { EndedBy self.old self.new result.0 (length events.new) result.1 }
@@ -246,7 +300,7 @@ impl FedJob {
         let (start, from) = match self.end {
             EndProgress::Told => return (0, StopReason::Done),
             EndProgress::Groups(key) => (0, key),
-            EndProgress::Open if events.len() < EVENTS_MOST => return (0, StopReason::Room),
+            EndProgress::Open if events.len() < EVENTS_MOST => return (0, StopReason::TooSmall),
             EndProgress::Open => {
                 let rest = self.part.len();
                 let tracker = &mut self.tracker;
@@ -258,6 +312,7 @@ impl FedJob {
         let seen = self.reassembly.records();
         let (filled, left) = give_groups(&self.tracker, seen, from, events, start);
         match left {
+            Some(_) if filled == 0 => (0, StopReason::TooSmall),
             Some(key) => {
                 self.end = EndProgress::Groups(key);
                 (filled, StopReason::Room)

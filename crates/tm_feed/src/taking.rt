@@ -1,6 +1,6 @@
 //! Octets that come: the records that they make whole are taken, one by one.
 
-ghost use Rattle.std.specs.Prelude.{◌≡◌, ◌≢◌, ◌<◌, ◌≤◌, ◌+◌, ◌++◌, length, take, [], true, false, None, IfSome, vec_capacity, vec_len};
+ghost use Rattle.std.specs.Prelude.{◌≡◌, ◌≢◌, ◌<◌, ◌≤◌, ◌+◌, ◌-◌, ◌++◌, length, take, [], true, false, None, IfSome, vec_capacity, vec_len};
 ghost use Rattle.tm_frame.specs.Layout.{most_records, record_length_of};
 ghost use Rattle.tm_checkpoint.specs.Works.{IsGoing};
 ghost use Rattle.tm_reassembly.specs.Steps.{step_items, stepped};
@@ -144,6 +144,8 @@ pub(crate) fn add_octets(
     ensures within { result.0 ≤ length octets.now }
     ensures done { result.1 ≡ StopReason.Done → result.0 ≡ length octets.now }
     ensures stop { result.1 ≢ StopReason.Done → StopsAdding result.1 reassembly.new (sink_state sink.new) }
+    ensures whole { result.1 ≢ StopReason.Done
+        → record_length_of reassembly.new.rules.layout ≤ length part.new.items + (length octets.now - result.0) }
 {
     let size = reassembly.layout().record_length();
     let mut at = 0;

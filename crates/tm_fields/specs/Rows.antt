@@ -93,3 +93,9 @@ RefusesShort fields packet result = bits_in packet < bits_needed fields → resu
 pub record RowsState : Type 0 where
   pub fields : List Field
   pub row : List ℕ
+
+-- rows in octets: also how many octets there is memory for
+pub record BinaryRowsState : Type 0 where
+  pub fields : List Field
+  pub row : List ℕ
+  pub capacity : ℕ

@@ -231,6 +231,7 @@ impl Definition {
         ensures short { RefusesShort self.now packet.now result }
         ensures kept { vec_capacity row.old ≤ vec_capacity row.new }
         ensures enough { row_length self.now ≤ vec_capacity row.old → IfErr result (λ f. f ≢ RowFault.NoMemory) }
+        ensures memory { OnOk result (row_length self.now ≤ vec_capacity row.new) }
     {
         if let Err(fault) = self.check_length(packet) {
             row.clear();

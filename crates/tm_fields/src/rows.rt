@@ -1,6 +1,6 @@
 //! The rows of a definition, written one after another.
 
-ghost use Rattle.std.specs.Prelude.{◌≡◌, [], ℕ, List, IfErr, OnErr, OnOk};
+ghost use Rattle.std.specs.Prelude.{◌≡◌, ◌≢◌, [], ℕ, List, IfErr, OnErr, OnOk};
 ghost use Rattle.tm_fields.specs.Rows.{IsRow, RefusesRow, RefusesShort, bits_needed};
 ghost use Rattle.tm_fields.specs.declared.faults.RowFault.TheVariants.{NoMemory};
 ghost use Rattle.tm_fields.specs.declared.field.Field.{Field};
@@ -11,7 +11,7 @@ use crate::cells::Cells;
 use crate::definition::Definition;
 use crate::faults::RowFault;
 use crate::lead::Lead;
-use std::alloc::{AllocError, Global};
+use std::alloc::Global;
 use std::marker::Model;
 
 /// How rows are written.
@@ -38,6 +38,9 @@ pub trait RowWriter {
     /// The row that was written last, or nothing where that was refused.
     ghost last: { Self → List ℕ };
 
+    /// There is memory for a row, so `write` takes none. For rows of text this is never known.
+    ghost has_memory: { Self → Type 0 };
+
     /// How many bits a packet must have: the greatest end of a field of any type, 0 without fields.
     fn bits_needed(&self) -> u32
         ensures { result ≡ bits_needed (Self.fields self.now) };
@@ -50,15 +53,17 @@ pub trait RowWriter {
     ///
     /// # Errors
     ///
-    /// `ShortPacket` where the packet has fewer bits than are needed, whatever memory there is. Else `NoMemory` where memory runs
-    /// out, and only for rows of text.
+    /// `ShortPacket` where the packet has fewer bits than are needed, whatever memory there is. Otherwise `NoMemory` where memory runs
+    /// out. Rows in octets take memory for the first row alone.
     fn write(&mut self, lead: Lead, packet: &[u8]) -> Result<(), RowFault>
         ensures fields { Self.fields self.new ≡ Self.fields self.old }
         ensures ok { OnOk result (IsRow form (Self.fields self.old) lead packet.now (Self.last self.new)) }
         ensures none { OnErr result (Self.last self.new ≡ []) }
         ensures refused { IfErr result (RefusesRow form (Self.fields self.old) lead packet.now) }
         ensures short { RefusesShort (Self.fields self.old) packet.now result }
-        ensures memory { IfErr result (λ fault. fault ≡ NoMemory → form ≡ Text) };
+        ensures enough { Self.has_memory self.old → IfErr result (λ fault. fault ≢ NoMemory) }
+        ensures memory { OnOk result (form ≡ Binary → Self.has_memory self.new) }
+        ensures kept { Self.has_memory self.old → Self.has_memory self.new };
 }
 
 /// The rows of a definition as lines.
@@ -97,6 +102,8 @@ impl RowWriter for Rows<'_> {
 
     ghost last = { λ r. r.row };
 
+    ghost has_memory = { λ _. ⊥ };
+
     fn bits_needed(&self) -> u32 {
         self.definition.bits_needed()
     }
@@ -124,45 +131,40 @@ impl RowWriter for Rows<'_> {
 #[derive(Drop)]
 pub struct BinaryRows<'a> {
     definition: &'a Definition,
-    // The last row, with memory for one.
     row: Vec<u8>,
 }
 
 impl<'a> Model for BinaryRows<'a> {
-    ghost use Rattle.std.specs.Prelude.{◌≤◌, vec_capacity};
-    ghost use Rattle.tm_fields.specs.Binary.{row_length};
-    ghost use Rattle.tm_fields.specs.Rows.{RowsState};
+    ghost use Rattle.std.specs.Prelude.{vec_capacity};
+    ghost use Rattle.tm_fields.specs.Rows.{BinaryRowsState};
 
-    ghost Value = { RowsState };
+    ghost Value = { BinaryRowsState };
 
-    ghost view = { λ r. record { fields = r.definition.now; row = r.row.items } };
-
-    ghost invariant = { λ r. row_length r.definition.now ≤ vec_capacity r.row };
+    ghost view = { λ r. record { fields = r.definition.now; row = r.row.items; capacity = vec_capacity r.row } };
 }
 
 impl<'a> BinaryRows<'a> {
-    ghost use Rattle.std.specs.Prelude.{IfOk};
-
-    /// The rows of a definition, none of them written. The memory of one is reserved here.
-    ///
-    /// # Errors
-    ///
-    /// `AllocError` where there is none.
-    pub fn new(alloc: Global, definition: &'a Definition) -> Result<BinaryRows<'a>, AllocError>
-        ensures { IfOk result (λ rows. rows ≡ record { fields = definition.now; row = [] }) }
+    /// The rows of a definition, none of them written. The first one takes the memory of all.
+    pub fn new(alloc: Global, definition: &'a Definition) -> BinaryRows<'a>
+        ensures fields { result.fields ≡ definition.now }
+        ensures none { result.row ≡ [] }
     {
-        let mut row = Vec::new(alloc);
-        row.reserve(definition.row_length() as usize)?;
-        Ok(BinaryRows { definition, row })
+        let row = Vec::new(alloc);
+        BinaryRows { definition, row }
     }
 }
 
 impl RowWriter for BinaryRows<'_> {
+    ghost use Rattle.std.specs.Prelude.{◌≤◌};
+    ghost use Rattle.tm_fields.specs.Binary.{row_length};
+
     ghost form = { Binary };
 
     ghost fields = { λ r. r.fields };
 
     ghost last = { λ r. r.row };
+
+    ghost has_memory = { λ r. row_length r.fields ≤ r.capacity };
 
     fn bits_needed(&self) -> u32 {
         self.definition.bits_needed()

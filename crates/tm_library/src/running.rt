@@ -12,7 +12,7 @@ use crate::Refusal;
 use crate::chunk::Chunk;
 use std::alloc::Global;
 use tm_devices::Room;
-use tm_tool::{Command, Ending, Job, Totals, run};
+use tm_tool::{Command, Ending, Job, Totals, run_and_count};
 
 /// The last chunk closes the recording.
 pub fn chunk_ending(last: bool) -> Ending
@@ -61,7 +61,7 @@ pub fn run_into_rooms(
     let (mut more_out, mut more_report) = (Vec::new(alloc), Vec::new(alloc));
     let mut out = Room::new(out, &mut more_out);
     let mut report = Room::new(report, &mut more_report);
-    match run(
+    match run_and_count(
         alloc,
         job,
         command,

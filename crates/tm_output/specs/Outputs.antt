@@ -64,24 +64,18 @@ CausedByOutput old new ShortRecording = ⊥
 CausedByOutput old new TooMany = ⊥
 CausedByOutput old new NoMemory = SameCounts old new
 
--- How an outlet is written: memory is taken for what belongs there; it may wait there for a flush; memory for it is reserved once, before
--- the recording is read.
+-- How an outlet is written: memory is taken for what belongs there; and it may wait there for a flush.
 pub record Buffering : Type 0 where
   pub memory : Bool
   pub flush : Bool
-  pub reserved : Bool
 
 -- octets go as they are, and a packet's line is made in a room of its own
 abbrev pub octets_buffering : Buffering
-octets_buffering = record { memory = false; flush = true; reserved = false }
+octets_buffering = record { memory = false; flush = true }
 
--- the head of rows, and a row of text, are made in memory
+-- the head of rows, and each row, are made in memory
 abbrev pub lines_buffering : Buffering
-lines_buffering = record { memory = true; flush = true; reserved = false }
-
--- a row in octets is made in memory that was reserved
-abbrev pub reserved_buffering : Buffering
-reserved_buffering = record { memory = false; flush = true; reserved = true }
+lines_buffering = record { memory = true; flush = true }
 
 -- memory is taken for something of this piece: its text for the report, or what belongs to `out`, where that takes memory
 abbrev pub TakesMemory : {A : Type 0} → Buffering → Piece A → Type 0

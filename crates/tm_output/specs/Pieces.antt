@@ -16,7 +16,7 @@ use Rattle.tm_output.specs.declared.command.Command.TheVariants.{Extract, Packet
 use Rattle.tm_items.specs.Among.{is_packet_item}
 use Rattle.tm_output.specs.FieldRows.{has_row, tabled, too_short}
 use Rattle.tm_lines.specs.Lines.{bad_line, drop_line, gap_line, master_gap_line, note_line, note_lines, packet_line, short_line, vca_line}
-use Rattle.tm_output.specs.Outputs.{Piece, Buffering, lines_buffering, octets_buffering, reserved_buffering}
+use Rattle.tm_output.specs.Outputs.{Piece, Buffering, lines_buffering, octets_buffering}
 
 -- the packet of a channel as its sequence counts see it
 abbrev pub sent : ℕ → List ℕ → Sent
@@ -104,18 +104,13 @@ text_of (Fields definition application) = rows_text Text definition.now applicat
 text_of BinaryPackets = packet_texts binary_packet
 text_of (BinaryFields definition application) = rows_text Binary definition.now application
 
--- how rows are written
-abbrev pub rows_buffering : RowForm → Buffering
-rows_buffering Text = lines_buffering
-rows_buffering Binary = reserved_buffering
-
 -- how what a command gives is written
 abbrev pub buffering_of : Command → Buffering
 buffering_of Extract = octets_buffering
 buffering_of Packets = octets_buffering
-buffering_of (Fields definition application) = rows_buffering Text
+buffering_of (Fields definition application) = lines_buffering
 buffering_of BinaryPackets = octets_buffering
-buffering_of (BinaryFields definition application) = rows_buffering Binary
+buffering_of (BinaryFields definition application) = lines_buffering
 
 -- ---- of items, by what is given of each
 

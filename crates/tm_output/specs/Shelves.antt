@@ -32,7 +32,7 @@ shelved_of _ = []
 
 -- octets go as they are, and none of them waits
 abbrev pub shelf_buffering : Buffering
-shelf_buffering = record { memory = false; flush = false; reserved = false }
+shelf_buffering = record { memory = false; flush = false }
 
 -- what is given of an item
 abbrev pub shelf_text : Texts Shelved

@@ -11,8 +11,8 @@ ghost use Rattle.tm_output.specs.FieldRows.{is_of_other, tabled};
 ghost use Rattle.tm_output.specs.Packets.{HasHeader, item_with};
 ghost use Rattle.tm_output.specs.code.Outlets.{GivesNone, PutStopped, appends_split, binary_none, listed_none, octets_none, packet_none};
 ghost use Rattle.tm_output.specs.code.Quiet.{AreJoined, outs_of};
-ghost use Rattle.tm_output.specs.Outputs.{FixedDrain, PutsPart, Buffering, octets_buffering};
-ghost use Rattle.tm_output.specs.Pieces.{HasLine, Texts, binary_packet, listed, packet_lead, packet_octets, packet_texts, rows_buffering};
+ghost use Rattle.tm_output.specs.Outputs.{FixedDrain, PutsPart, Buffering, lines_buffering, octets_buffering};
+ghost use Rattle.tm_output.specs.Pieces.{HasLine, Texts, binary_packet, listed, packet_lead, packet_octets, packet_texts};
 ghost use Rattle.tm_output.specs.Totals.{is_some_text};
 ghost use Rattle.tm_output.specs.code.ShelfLaws.{no_shelf, shelves_nil, shelves_split, shelves_trans};
 ghost use Rattle.tm_output.specs.Shelves.{Shelved, Shelves, shelf_text, shelf_buffering};
@@ -51,7 +51,7 @@ pub trait Outlet {
     /// What is given of an item: here, and to the report.
     ghost text: { Self.Fixed → Texts Self.Part };
 
-    /// Whether memory is taken for what belongs here, whether that may wait for a flush, and whether memory for it is reserved before.
+    /// Whether memory is taken for what belongs here, and whether that may wait for a flush.
     ghost buffering: { Buffering };
 
     /// All that is held was passed on.
@@ -568,7 +568,7 @@ fn write_row<R: RowWriter, W: Drain>(
     ensures whole { OnOk result (Appends (W.written out.old) (W.written out.new)
         (tabled R.form (R.fields rows.old) application (item_with packet.now))
         × (W.failures out.new ≡ W.failures out.old)) }
-    ensures stopped { IfErr result (PutStopped Appends (rows_buffering R.form) (W.written out.old) (W.written out.new)
+    ensures stopped { IfErr result (PutStopped Appends lines_buffering (W.written out.old) (W.written out.new)
         (W.failures out.old) (W.failures out.new)
         (tabled R.form (R.fields rows.old) application (item_with packet.now))) }
 {
@@ -622,7 +622,7 @@ impl<R: RowWriter, W: Drain> Outlet for PacketRows<'_, '_, R, W> {
 
     ghost text = { λ f. rows_text R.form f.fields f.application };
 
-    ghost buffering = { rows_buffering R.form };
+    ghost buffering = { lines_buffering };
 
     ghost passed = { λ o. Keeps (W.flushed o.out.now) (W.written o.out.now) };
 

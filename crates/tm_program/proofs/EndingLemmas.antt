@@ -8,7 +8,7 @@ use Rattle.tm_output.specs.Pieces.{Texts}
 use Rattle.tm_output.specs.Shelves.{Shelves, shelf_buffering, shelf_text}
 use Rattle.tm_checkpoint.specs.Works.{JobState, Work}
 use Rattle.tm_tool.specs.Runs.{Devices, IsEnough, Ran, kept_of}
-use Rattle.tm_tool.specs.declared.job.Done.{Done}
+use Rattle.tm_tool.specs.declared.job.CountedRun.{CountedRun}
 use Rattle.tm_settings.specs.Settings.{Rules}
 use Rattle.tm_fields.specs.declared.field.Field.{Field}
 use Rattle.tm_program.specs.Found.{Finds, ending_of, ending_with, texts_for, totals_over, work_from}
@@ -30,23 +30,23 @@ untold ending w left read enough = (enough.0, ⊎_elim (λ all. inl (tt, all.1))
 
 module _ {A K : Type 0} (grows : K → K → List A → Type 0) (buffering : Buffering) (text : Texts A) (ending : Ending) (w : Work) where
   -- what it gave and lost rests only on which packets are given, and on what the report says of them
-  pub ran_done : (old new : Devices K) (head : List (Piece A)) (done : Done) (texts : Texts ℕ) → texts.given ≡ text.given → texts.remark ≡ text.remark
+  pub ran_done : (old new : Devices K) (head : List (Piece A)) (done : CountedRun) (texts : Texts ℕ) → texts.given ≡ text.given → texts.remark ≡ text.remark
       → Ran grows buffering text ending w head old new done.records (option_map (λ job. job.work) done.kept) done.totals
       → IsDone texts ending w done
   ran_done old new head done texts given remark r =
       (r.read, untold ending w new.left r.read r.enough, r.outcome.count_is, r.outcome.kept_is, rw (given, remark) r.outcome.totals_is)
 
 -- splitting did this
-abbrev SplitRan : Ending → Work → (old new : Devices (Option (ℕ → List ℕ))) → Done → Type 0
+abbrev SplitRan : Ending → Work → (old new : Devices (Option (ℕ → List ℕ))) → CountedRun → Type 0
 SplitRan ending w old new d = Ran Shelves shelf_buffering shelf_text ending w [] old new d.records (option_map (λ job. job.work) d.kept) d.totals
 
 -- So of splitting, which gives each packet, too. What it ends with is what the run did.
-pub split_ends : (ending : Ending) (w : Work) (old new : Devices (Option (ℕ → List ℕ))) (done : Result Done RunFault) (ended : Result Done ToolFault)
+pub split_ends : (ending : Ending) (w : Work) (old new : Devices (Option (ℕ → List ℕ))) (done : Result CountedRun RunFault) (ended : Result CountedRun ToolFault)
     → IfOk done (SplitRan ending w old new)
     → IfOk ended (λ d. done ≡ Ok d) → IfOk ended (IsDone folder_texts ending w)
 split_ends ending w old new done (Err fault) ran same = tt
 split_ends ending w old new done (Ok d) ran same =
-    let r = subst (λ (result : Result Done RunFault). IfOk result (SplitRan ending w old new)) same ran in
+    let r = subst (λ (result : Result CountedRun RunFault). IfOk result (SplitRan ending w old new)) same ran in
     ran_done Shelves shelf_buffering shelf_text ending w old new [] d folder_texts refl refl r
 
 -- a run of a plan with a file for the checkpoint keeps a job
@@ -60,7 +60,7 @@ file_with (Some name) (Some records) w None is = cc
 file_with (Some name) (Some records) w (Some job) is = refl
 
 -- so the file of the plan's checkpoint takes it
-pub file_of_done : (p : Plan) (settings : Rules) (job : JobInputs) (done : Done) → HasDone p settings job done → requested_checkpoint p.checkpoint done.kept ≡ p.checkpoint
+pub file_of_done : (p : Plan) (settings : Rules) (job : JobInputs) (done : CountedRun) → HasDone p settings job done → requested_checkpoint p.checkpoint done.kept ≡ p.checkpoint
 file_of_done p settings job done (read, enough, count_is, kept_is, totals_is) = file_with p.checkpoint p.stop_after _ done.kept kept_is
 
 -- ---- what is found
@@ -73,7 +73,7 @@ texts_asked p (Output Binary) (is, flag) = (None, rw (is, flag) refl)
 texts_asked p (Output (Row definition application form)) (is, named, asked, flag) = (Some definition, rw (is, asked, flag) refl)
 texts_asked p (Folder dir) (is, named) = (None, rw is refl)
 
-pub found_of_done : (p : Plan) (settings : Rules) (job : JobInputs) (done : Done) (f : Found)
+pub found_of_done : (p : Plan) (settings : Rules) (job : JobInputs) (done : CountedRun) (f : Found)
     → IsJob p settings job → HasDone p settings job done → FindsDone done f → Finds p f
 found_of_done p settings job done (found.Packets records totals) (to, resumed, read_back) (read, enough, count_is, kept_is, totals_is) is =
     let asked = texts_asked p job.destination to in (

@@ -12,7 +12,7 @@ use std::rt::Files;
 use tm_arguments::Plan;
 use tm_faults::ToolFault;
 use tm_files::{Replaced, Replacement, abandon_replacement, begin_replacement, finish_replacement};
-use tm_tool::{Done, Ending, Job, RunFault, Settings};
+use tm_tool::{CountedRun, Ending, Job, RunFault, Settings};
 
 /// Where the run of the plan ends: after its number of records, or at the end of the recording. That is closed there unless the plan names a
 /// checkpoint.
@@ -71,7 +71,7 @@ fn abandon_checkpoint<R: Files>(rt: &R, replacement: Option<Replacement<'_, R::F
 fn store_checkpoint<'p, R: Files + AllocGlobal>(
     rt: &R,
     replacement: Option<Replacement<'p, R::File>>,
-    done: &Done,
+    done: &CountedRun,
 ) -> Result<Option<Replaced<'p>>, ToolFault>
     ensures replaced { IfOk result (λ found. option_map replaced_name found
         ≡ requested_checkpoint (option_map replacement_name replacement.entry) done.now.kept) }
@@ -95,7 +95,7 @@ fn store_checkpoint<'p, R: Files + AllocGlobal>(
 }
 
 // What a job has found that did this, where this many records were done before.
-fn findings_of(done: &Done, before: u32) -> Found
+fn findings_of(done: &CountedRun, before: u32) -> Found
     ensures { FindsDone done.now result }
 {
     Found::Packets {
@@ -109,7 +109,7 @@ fn findings_of(done: &Done, before: u32) -> Found
 pub(crate) fn end_checkpoint<'p, R: Files + AllocGlobal>(
     rt: &R,
     replacement: Option<Replacement<'p, R::File>>,
-    done: Result<Done, ToolFault>,
+    done: Result<CountedRun, ToolFault>,
     before: u32,
 ) -> Result<Finished<'p>, ToolFault>
     ensures done { IfOk result (λ finished. MatchOption finished.done ⊥ (λ it. done ≡ Ok it)) }

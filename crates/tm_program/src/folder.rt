@@ -15,7 +15,7 @@ use tm_faults::ToolFault;
 use tm_file_identity::FileIdentities;
 use tm_files::file_fault;
 use tm_split_files::{FileShelf, RefusedPut, ShelfFault, name_in};
-use tm_tool::{BufferedSource, Done, Drain, Ending, Job, Octets, RunFault, split};
+use tm_tool::{BufferedSource, CountedRun, Drain, Ending, Job, Octets, RunFault, split_and_count};
 
 // The files for the applications in this folder, appended to if the plan resumes a job. None is one of the run's other
 // files. An empty name is none: it would stand for the root.
@@ -72,9 +72,9 @@ fn split_end(
     alloc: Global,
     dir: &str,
     put: Option<RefusedPut>,
-    done: Result<Done, RunFault>,
+    done: Result<CountedRun, RunFault>,
     written: Result<(), ShelfFault>,
-) -> Result<Done, ToolFault>
+) -> Result<CountedRun, ToolFault>
     ensures done { IfOk result (λ d. done ≡ Ok d) }
     ensures written { OnOk result (written ≡ Ok tt) }
     ensures refused { IfErr result (λ fault. IsRunFault fault ⊎ IsFolderFault dir.now fault) }
@@ -101,7 +101,7 @@ pub(crate) fn split_packets<R: Files + AllocGlobal, S: BufferedSource, V: Drain>
     shelf: &mut FileShelf<'_, R>,
     source: &mut S,
     report: &mut V,
-) -> Result<Done, ToolFault>
+) -> Result<CountedRun, ToolFault>
     ensures done { IfOk result (IsDone folder_texts ending job.work) }
     ensures written { OnOk result (HoldsNone shelf.new.held) }
     ensures blamed { IfErr result (IsBlamedBeside (S.failures source.old) (S.failures source.new) (V.failures report.old)
@@ -110,7 +110,7 @@ pub(crate) fn split_packets<R: Files + AllocGlobal, S: BufferedSource, V: Drain>
 {
     let alloc = rt.alloc();
     let dir = shelf.dir();
-    let done = split(alloc, job, source, shelf, report, ending);
+    let done = split_and_count(job, source, shelf, report, ending);
     let written = shelf.write_held();
     split_end(alloc, dir, shelf.last_refused(), done, written)
 }

@@ -4,7 +4,7 @@ ghost use Rattle.std.specs.Prelude.{◌≡◌, ◌||◌, nat_lt, false};
 ghost use Rattle.tm_program.specs.Statuses.{done_status, found_good_frame, found_losses};
 
 use tm_files::Replaced;
-use tm_tool::{Done, Listed, Summed, Totals};
+use tm_tool::{CountedRun, Listed, Summed, Totals};
 
 /// What a run that is done has found of its recording.
 #[derive(Clone, Copy, Debug, PartialEq, Eq)]
@@ -70,7 +70,7 @@ impl ProgramOutcome {
 /// What the run of a plan did. A job says what it has done, and which file took its checkpoint, where the plan has one.
 #[derive(Drop)]
 pub(crate) struct Finished<'p> {
-    pub(crate) done: Option<Done>,
+    pub(crate) done: Option<CountedRun>,
     pub(crate) replaced: Option<Replaced<'p>>,
     pub(crate) found: Found,
 }

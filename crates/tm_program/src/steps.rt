@@ -29,8 +29,8 @@ use tm_files::{
     make_drain, open_recording, open_report, source_of_input, writes_errors,
 };
 use tm_tool::{
-    BufferedSource, Command, Done, Drain, Ending, Job, Octets, Settings, Writing, list_recording,
-    sum_up,
+    BufferedSource, Command, CountedRun, Drain, Ending, Job, Octets, Settings, Writing, list_recording,
+    run_and_count, sum_up,
 };
 
 // The plan of the arguments.
@@ -100,7 +100,7 @@ fn give_packets<R: Print + AllocGlobal, S: BufferedSource, V: Drain>(
     ending: Ending,
     source: &mut S,
     report: &mut V,
-) -> Result<Done, ToolFault>
+) -> Result<CountedRun, ToolFault>
     ensures done { IfOk result (IsDone (text_of command.entry) ending job.work) }
     ensures blamed { IfErr result (IsBlamedBeside (S.failures source.old) (S.failures source.new) (V.failures report.old)
         (V.failures report.new)) }
@@ -108,7 +108,7 @@ fn give_packets<R: Print + AllocGlobal, S: BufferedSource, V: Drain>(
 {
     let alloc = rt.alloc();
     let mut out = make_drain(alloc, io::writer(rt))?;
-    match tm_tool::run(alloc, job, command, source, &mut out, report, ending) {
+    match run_and_count(alloc, job, command, source, &mut out, report, ending) {
         Ok(done) => Ok(done),
         Err(fault) => Err(ToolFault::Run(fault)),
     }
@@ -124,7 +124,7 @@ fn fill_folder<R: Files + AllocGlobal, S: BufferedSource, V: Drain>(
     job: Job,
     source: &mut S,
     report: &mut V,
-) -> Result<Done, ToolFault>
+) -> Result<CountedRun, ToolFault>
     ensures done { IfOk result (IsDone folder_texts (ending_of plan.now) job.work) }
     ensures refused { IfErr result (λ fault. IsRunFault fault ⊎ IsFolderFault dir.now fault) }
 {
@@ -142,7 +142,7 @@ fn run_to_destination<R: Files + Print + AllocGlobal, S: BufferedSource, V: Drai
     job: JobInputs<'_>,
     source: &mut S,
     report: &mut V,
-) -> Result<Done, ToolFault>
+) -> Result<CountedRun, ToolFault>
     requires { IsJob plan.now settings.now job }
     ensures done { IfOk result (HasDone plan.now settings.now job.entry) }
     ensures refused { IfErr result (λ fault. IsRunFault fault ⊎ HasFolderFault plan.now.dir fault) }

@@ -4,7 +4,7 @@ use crate::runs::{octets_of, settings_of};
 use crate::{MemoryDrain, MemoryShelf, MemorySource};
 use std::alloc::Global;
 use tm_tool::{
-    Command, Done, Ending, Job, RunFault, Settings, Totals, list_frames, run, split, summarize,
+    Command, Done, Ending, Job, RunFault, Settings, list_frames, run, split, summarize,
 };
 
 /// A device of a run: what is read, where the packets go, and the report.
@@ -126,7 +126,6 @@ impl Bench {
                 Ok(records) => Ok(Done {
                     records,
                     kept: None,
-                    totals: Totals::none(),
                 }),
                 Err(fault) => Err(fault),
             },

@@ -259,7 +259,7 @@ fn end_of_run(
 }
 
 #[test]
-fn worked_failures(rt: HostRuntime) {
+fn failing_devices(rt: HostRuntime) {
     // guards: the-contracts-that-devices-keep
     let line =
         "packet record=0 channel=0 from=0 at=0 type=tm secondary=no apid=100 flags=unsegmented count=0 octets=10\n";

@@ -10,6 +10,8 @@ mod altered;
 #[cfg(test)]
 mod bench;
 #[cfg(test)]
+mod binary_forms;
+#[cfg(test)]
 mod bounds;
 #[cfg(test)]
 mod calls;

@@ -244,11 +244,10 @@ fn row_written(alloc: Global, definition: &Definition) -> Answer {
 }
 
 fn octets_written(alloc: Global, definition: &Definition) -> Answer {
-    match BinaryRows::new(alloc, definition) {
-        Ok(mut rows) => {
-            Answer::right_if(rows.write(LEAD, &PACKET).is_ok() && rows.row() == ROW_OCTETS)
-        }
-        Err(_) => Answer::Refused,
+    let mut rows = BinaryRows::new(alloc, definition);
+    match rows.write(LEAD, &PACKET) {
+        Ok(()) => Answer::right_if(rows.row() == ROW_OCTETS),
+        Err(fault) => Answer::refused_if(fault == RowFault::NoMemory && rows.row().is_empty()),
     }
 }
 

@@ -403,7 +403,7 @@ fn in_held_memory<R: Files + AllocGlobal + Abort>(rt: &R, running: &mut Running)
 
 // A run whose report has no line takes no memory after its job: with none left it closes the recording and gives all.
 #[test]
-fn closed_without_memory(rt: HostRuntime) {
+fn reads_no_further_without_memory(rt: HostRuntime) {
     // guards: the-parts-of-the-state
     for task in [Task::Extract, Task::Packets, Task::Split] {
         let running = try_twice(|| two_channels(rt.alloc(), task));

@@ -10,12 +10,12 @@ use tm_fields::Definition;
 use tm_frame::error_control;
 use tm_tool::{Command, Ending, Job, RunFault, Settings};
 
-// How a stopped job goes on.
+/// How a stopped job goes on.
 #[derive(Clone, Copy, PartialEq, Eq)]
-enum Going {
-    // The job that the run kept goes on itself.
+pub(crate) enum Going {
+    /// The job that the run kept goes on itself.
     Kept,
-    // It is written as a checkpoint of this version, and resumed from that.
+    /// It is written as a checkpoint of this version, and resumed from that.
     Resumed(u8),
 }
 
@@ -73,8 +73,8 @@ fn run_to_the_close(alloc: Global, bench: &mut Bench, job: Job, by: By<'_>) -> O
     }
 }
 
-// A job is stopped after each record and goes on, and then closes the recording: it gives just these octets, and the row's report.
-fn goes_in_steps(
+/// A job is stopped after each record and goes on, and then closes the recording: it gives just these octets, and the row's report.
+pub(crate) fn goes_in_steps(
     alloc: Global,
     row: &Row,
     by: By<'_>,
@@ -178,15 +178,6 @@ fn stopped_once(alloc: Global, row: &Row, records: u32) -> Option<Vec<u8>> {
     }
 }
 
-#[test]
-fn two_channels_stopped_once(rt: HostRuntime) {
-    // guards: a-checkpoint-is-read-again-as-the-same-work
-    for records in 1..=4u32 {
-        let checkpoint = stopped_once(rt.alloc(), &TWO_CHANNELS, records);
-        assert!(rt; checkpoint.is_some(), "after {records} records");
-    }
-}
-
 // Three records are done, and a packet of 14 octets is begun.
 const GAP: &str = "544D5843 03 002A 0018 0000 0000 00 00 00 FF 010006 00000003 01 00 \
     02 00 00000002 000A 00000008 0064C00300075555 00 00 00 00 00 00 00 0001 0064 0002 FFFF 613D";
@@ -202,7 +193,6 @@ fn known_checkpoints(rt: HostRuntime) {
     // guards: a-checkpoint-is-read-again-as-the-same-work
     let alloc = rt.alloc();
     let table = [
-        (&TWO_CHANNELS, 3, CHECKPOINT),
         (&FRAME_GAP, 3, GAP),
         (&LONG_SPLIT_HEADER, 1, LIMITED),
     ];
@@ -228,27 +218,18 @@ fn goes_on_from(
     goes_on(alloc, &mut bench, &checkpoint, octets, report)
 }
 
-// Each version of a checkpoint after three records is gone on from. The older ones don't tell the last count of the master
+// A job goes on from each version of a checkpoint after three records. The older ones don't tell the last count of the master
 // channel, so the report lacks its gap.
 #[test]
-fn resumed_from_three_versions(rt: HostRuntime) {
+fn older_checkpoints(rt: HostRuntime) {
     // guards: what-a-forgotten-master-count-costs
     // guards: each-stop-in-an-older-version-costs-at-most-one-line
     let gap = FRAME_GAP.report;
     let older = gap.strip_prefix("mastergap record=3 expected=1 found=2 missing=1\n");
     let older = older.unwrap_or("");
-    let joined = "0064C00000135555555555555555555555555555555555555555 0064C001000355555555";
     let last = "0064C0040005555555555555";
-    let table = [
-        (CHECKPOINT, &TWO_CHANNELS, joined, ""),
-        (VERSION_2, &TWO_CHANNELS, joined, ""),
-        (VERSION_1, &TWO_CHANNELS, joined, ""),
-        (GAP, &FRAME_GAP, last, gap),
-        (GAP_2, &FRAME_GAP, last, older),
-        (GAP_1, &FRAME_GAP, last, older),
-    ];
-    for (checkpoint, row, octets, report) in table {
-        let right = goes_on_from(rt.alloc(), checkpoint, row, octets, report);
+    for (checkpoint, report) in [(GAP, gap), (GAP_2, older), (GAP_1, older)] {
+        let right = goes_on_from(rt.alloc(), checkpoint, &FRAME_GAP, last, report);
         assert!(rt; right == Some(true), "{checkpoint}");
     }
 }
@@ -320,9 +301,9 @@ fn octets_read(alloc: Global) -> Option<usize> {
     }
 }
 
-// Stopped after two records, a run has left the other two unread: 48 octets.
+// Stopped after two records, a run has left the other two unread: 48 octets. `reads_no_further_without_memory` has the rest.
 #[test]
-fn reads_two_records(rt: HostRuntime) {
+fn reads_no_further(rt: HostRuntime) {
     // guards: what-a-run-reads-and-when-it-flushes
     assert!(rt; octets_read(rt.alloc()) == Some(48));
 }
@@ -368,9 +349,25 @@ fn answer_of_two_records(alloc: Global) -> Option<Result<u32, RunFault>> {
     }
 }
 
+// Stopped once after each number of records, and after each record. The checkpoint after three is known, and is read in each version. A
+// recording of two records is then too short.
 #[test]
-fn recording_too_short(rt: HostRuntime) {
+fn stop_and_resume(rt: HostRuntime) {
+    // guards: a-checkpoint-is-read-again-as-the-same-work
     // guards: run-stops-at-one-place-in-both-outputs
+    let alloc = rt.alloc();
+    let known = octets_of(alloc, CHECKPOINT);
+    for records in 1..=4u32 {
+        let checkpoint = stopped_once(alloc, &TWO_CHANNELS, records);
+        assert!(rt; checkpoint.is_some(), "after {records} records");
+        assert!(rt; records != 3 || checkpoint == known);
+    }
+    let joined = "0064C00000135555555555555555555555555555555555555555 0064C001000355555555";
+    for (text, length) in [(CHECKPOINT, 74), (VERSION_2, 72), (VERSION_1, 69)] {
+        let octets = octets_of(alloc, text).expect(&rt, "octets");
+        let right = goes_on_from(alloc, text, &TWO_CHANNELS, joined, "");
+        assert!(rt; octets.len() == length && right == Some(true), "{text}");
+    }
     let wanted = Some(Err(RunFault::ShortRecording));
-    assert!(rt; answer_of_two_records(rt.alloc()) == wanted);
+    assert!(rt; answer_of_two_records(alloc) == wanted);
 }

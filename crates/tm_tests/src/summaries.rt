@@ -3,7 +3,7 @@
 use crate::bench::{Bench, By, Device};
 use crate::runs::{POINTER_DROP_AND_SEQUENCE_GAP, Row, rows};
 use std::alloc::Global;
-use tm_tool::{Command, Ending, Job, RunFault, sum_up};
+use tm_tool::{Command, Ending, Job, RunFault, run_and_count, sum_up};
 
 // All was read, just the lines of the row's summary were written, and its records were told.
 fn is_summed(alloc: Global, bench: &mut Bench, row: &Row) -> bool {
@@ -42,8 +42,22 @@ fn is_lost(line: &str) -> bool {
 fn row_is_told(alloc: Global, row: &Row) -> Option<bool> {
     let mut bench = Bench::new(alloc, row.settings, row.recording, 65_536)?;
     let job = Job::new(alloc, &bench.settings).ok()?;
-    let by = By::Run(Command::Packets);
-    let totals = bench.run(alloc, job, by, Ending::Close).ok()?.totals;
+    let Bench {
+        source,
+        out,
+        report,
+        ..
+    } = &mut bench;
+    let counted = run_and_count(
+        alloc,
+        job,
+        Command::Packets,
+        source,
+        out,
+        report,
+        Ending::Close,
+    );
+    let totals = counted.ok()?.totals;
     bench.begin(Device::Recording, 0);
     let Bench {
         settings,

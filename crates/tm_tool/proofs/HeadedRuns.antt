@@ -1,5 +1,5 @@
 -- What a command has before all else, and a run that stopped after it, in the words of the whole recording.
-use Rattle.std.proofs.Common.{◌<◌, ℕ, List, [], ◌++◌, ap, subst, inl, inr, ◌⊎◌, Option, None, Some, IfSome, Result, Ok, Err, rules, Bor, ◌≡◌, ◌≢◌, Bool, true, false, refl, sym}
+use Rattle.std.proofs.Common.{◌<◌, ℕ, List, [], ◌++◌, subst, inl, inr, Option, None, Some, IfSome, rules, Bor, ◌≡◌, ◌≢◌, Bool, true, false, refl, sym}
 use Rattle.std.proofs.KnownBytes.{Appends-trans, Appends-kept, Appends-nil}
 use Rattle.tm_frame.specs.Layout.{record_length_of}
 use Rattle.tm_faults.specs.declared.run.RunFault.{RunFault}
@@ -8,12 +8,10 @@ use Rattle.tm_output.specs.Outputs.{AppendsCut, CausedByOutput, Piece, Took, Vie
 use Rattle.tm_output.specs.Pieces.{Texts, buffering_of}
 use Rattle.tm_checkpoint.specs.Works.{Work}
 use Rattle.tm_tool.specs.RecordingPieces.{pieces}
-use Rattle.tm_tool.specs.Runs.{Devices, DevicesCounted, IsHeadedStop, StoppedIn, course, devices_at}
-use Rattle.tm_tool.specs.code.Stepping.{RunHasEnded, RunEndsOrLacksMemory}
-use Rattle.tm_output.specs.declared.totals.Totals.{Totals}
+use Rattle.tm_tool.specs.Runs.{IsHeadedStop, StoppedIn, course, devices_at}
 use Rattle.tm_tool.specs.Courses.{RecordCourse, IsStoppedAt, whole}
 use Rattle.tm_tool.proofs.Courses.{run_cut, run_many, run_short, stopped_at}
-use Rattle.tm_output.proofs.PieceLemmas.{cut_after, cut_none, stopped_more, stops_after, flush_out, flushed, stopped_put, took_failed, took_piece}
+use Rattle.tm_output.proofs.PieceLemmas.{cut_after, stopped_more, stops_after, flush_out, flushed, stopped_put, took_failed, took_piece}
 use Rattle.tm_tool.proofs.Running.{IsValid, is_course, pieces_whole}
 use Rattle.std.specs.Io.KnownBytes.{Appends, Keeps}
 use Rattle.tm_devices.specs.Devices.{raised}
@@ -79,12 +77,12 @@ module _ {A K : Type 0} (grows : K → K → List A → Type 0) (grows-nil : (k 
       let all = stopped_more grows grows-nil grows-trans buffering old new head (pieces text ending w octets) fault h.stopped in
       record {
         cut = all.cut;
-        memory = λ e. inl (all.memory e);
+        memory = all.memory;
         refused = all.refused;
         too_many = λ e. absurd (subst (CausedByOutput old new) e h.stopped.cause);
         short = λ e. absurd (subst (CausedByOutput old new) e h.stopped.cause);
       }
-  stop_told (Some octets) (inr (inl h)) =
+  stop_told (Some octets) (inr h) =
       let c : RecordCourse A = course text ending w in
       let own = is_course text ending w valid in
       let here : List (Piece A) = whole c octets in
@@ -93,51 +91,8 @@ module _ {A K : Type 0} (grows : K → K → List A → Type 0) (grows-nil : (k 
       let writes = stopped_at c own some (Some octets) next grows grows-nil grows-trans buffering h.mid new in
       record {
         cut = rw is (cut_behind h.mid here h.headed (run_cut c own some (Some octets) next grows grows-nil grows-trans buffering h.mid new fault h.stopped));
-        memory = λ e. inl (rw is (stops_after grows grows-nil grows-trans old h.mid head here h.headed ((writes NoMemory (stop NoMemory e)).memory refl)));
+        memory = λ e. rw is (stops_after grows grows-nil grows-trans old h.mid head here h.headed ((writes NoMemory (stop NoMemory e)).memory refl));
         refused = λ e kept. rw is (stops_after grows grows-nil grows-trans old h.mid head here h.headed ((writes Write (stop Write e)).refused refl kept));
         too_many = λ e. run_many c own some (Some octets) next grows grows-nil grows-trans buffering h.mid new (stop TooMany e);
         short = λ e. run_short c own some (Some octets) next grows grows-nil grows-trans buffering h.mid new (stop ShortRecording e);
       }
-  stop_told (Some octets) (inr (inr h)) =
-      let ps : List (Piece A) = pieces text ending w octets in
-      let none : AppendsCut grows new new ps = ([], [], cut_none ps, grows-nil new.out, Appends-nil new.report) in
-      let is = h.memory in
-      record {
-        cut = cut_behind new ps h.headed none;
-        memory = λ e. inr (h.reserved, h.headed);
-        refused = λ e kept. absurd (cc);
-        too_many = λ e. absurd (cc);
-        short = λ e. absurd (cc);
-      }
-
--- ---- a run that reserves memory first
-
-module _ {A K : Type 0} (grows : K → K → List A → Type 0) (buffering : Buffering) (text : Texts A) (ending : Ending) (w : Work) where
-  -- with Ok there was that memory
-  pub ran_reserved : (left : Work) (old new : Devices K) (totals : Totals) → RunEndsOrLacksMemory text ending w left grows buffering old new (Ok totals)
-      → RunHasEnded text ending w left grows buffering old new (Ok totals)
-  ran_reserved left old new totals (inl (is, reserved, same)) = absurd (cc)
-  ran_reserved left old new totals (inr h) = h
-
-  -- else it stopped behind a head
-  pub stop_reserved : {Counted : Type 0} (first next : Option (List ℕ)) (old mid new : View K) (failures failures' : ℕ) (head : List (Piece A))
-      (fault : RunFault) → Took grows old mid head
-      → ((◌≡◌ {A = Result Totals RunFault} (Err fault) (Err NoMemory)) × (buffering.reserved ≡ true) × (devices_at next failures' new ≡ devices_at first failures mid))
-      ⊎ (IsStoppedAt grows buffering (course text ending w) first next mid new fault × Counted)
-      → IsHeadedStop grows buffering text ending w head (devices_at first failures old) (devices_at next failures' new) fault
-  stop_reserved first next old mid new failures failures' head fault headed (inl (is, reserved, same)) =
-      let unread : next ≡ first = ap (λ (d : Devices K). d.left) same in
-      let outputs : new ≡ mid = ap (λ (d : Devices K). d.outputs) same in
-      inr (inr (record { memory = cc; reserved = reserved; unread = unread; headed = rw outputs headed }))
-  stop_reserved first next old mid new failures failures' head fault headed (inr h) =
-      inr (inl (record { mid = mid; headed = headed; stopped = h.0 }))
-
--- and a device is blamed only where a call of it failed
-pub counts_reserved : {K Reserved Stop : Type 0} (old new : Devices K) (fault : RunFault)
-    → ((◌≡◌ {A = Result Totals RunFault} (Err fault) (Err NoMemory)) × Reserved × (new ≡ old)) ⊎ (Stop × DevicesCounted {T = Totals} old new (Err fault))
-    → DevicesCounted {T = Totals} old new (Err fault)
-counts_reserved {K = K} old new fault (inl (is, reserved, same)) =
-    let none : fault ≡ NoMemory = cc in
-    subst (λ (f : RunFault). DevicesCounted {T = Totals} old new (Err f)) (sym none)
-    (subst (λ (d : Devices K). DevicesCounted {T = Totals} old d (Err NoMemory)) (sym same) (refl, (refl, refl)))
-counts_reserved old new fault (inr h) = h.1

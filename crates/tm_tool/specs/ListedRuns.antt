@@ -8,7 +8,7 @@ use Rattle.tm_output.specs.declared.command.Command.TheVariants.{Extract}
 use Rattle.tm_output.specs.declared.command.Ending.{Ending}
 use Rattle.tm_output.specs.Outputs.{View, octets_buffering, view}
 use Rattle.tm_output.specs.Pieces.{text_of}
-use Rattle.tm_tool.specs.declared.job.Done.{Done}
+use Rattle.tm_tool.specs.declared.job.CountedRun.{CountedRun}
 use Rattle.tm_tool.specs.Courses.{Devices, DevicesCounted, HasRun, IsStoppedAt, RecordCourse, StopsWithoutMemory, devices_at}
 use Rattle.tm_tool.specs.Listing.{listing_course}
 use Rattle.tm_tool.specs.Runs.{IsSoundWork, Ran}
@@ -21,7 +21,7 @@ nowhere = view None None 0 0
 abbrev pub lines_course : Ending → Work → RecordCourse ℕ
 lines_course ending w = listing_course w.rules.layout w.state.records ending
 
-pub record ListsWithJob (ending : Ending) (job : JobState) (old new : Devices (Option (List ℕ))) (result : Result Done RunFault) : Type 0 where
+pub record ListsWithJob (ending : Ending) (job : JobState) (old new : Devices (Option (List ℕ))) (result : Result CountedRun RunFault) : Type 0 where
   pub sound : IsSoundWork job.work
   -- with Ok just the lines of what was read were written; what was read is what the ending reads
   pub listed : IfOk result (λ done. HasRun Appends octets_buffering (lines_course ending job.work) old.left new.left old.outputs new.outputs

@@ -1,5 +1,5 @@
 -- What was read and written when a run ended. If a source doesn't tell its octets, nothing is said of what was read.
-use Rattle.std.specs.Prelude.{false, true, ◌≡◌, ◌≢◌, ◌⊎◌, ◌<◌, ◌+◌, ℕ, List, [], ◌∷◌, ◌++◌, length, option_map, Option, None, Some, Result, IfErr, IfOk, IfSome, OnOk}
+use Rattle.std.specs.Prelude.{false, ◌≡◌, ◌≢◌, ◌⊎◌, ◌<◌, ◌+◌, ℕ, List, [], ◌∷◌, ◌++◌, length, option_map, Option, None, Some, Result, Ok, Err, IfErr, IfOk, IfSome, OnOk}
 use Rattle.std.specs.Io.KnownBytes.{Appends, Consumes, Keeps}
 use Rattle.tm_frame.specs.Layout.{most_records, record_length_of}
 use Rattle.tm_reassembly.specs.Valid.{IsValidState}
@@ -19,6 +19,7 @@ use Rattle.tm_devices.specs.declared.device.Shelf as shelf
 use Rattle.tm_devices.specs.declared.device.BufferedSource as source
 use Rattle.tm_checkpoint.specs.Works.{JobState, Work}
 use Rattle.tm_output.specs.declared.totals.Totals.{Totals}
+use Rattle.tm_tool.specs.declared.job.CountedRun.{CountedRun}
 use Rattle.tm_tool.specs.declared.job.Done.{Done}
 use Rattle.tm_tool.specs.HeadPieces.{head_pieces}
 use Rattle.tm_tool.specs.RunTotals.{run_totals}
@@ -122,19 +123,10 @@ module _ {A K : Type 0} (grows : K → K → List A → Type 0) (buffering : Buf
     pub headed : Took grows old mid head
     pub stopped : IsStoppedAt grows buffering (course text ending w) left_old left_new mid new fault
 
-  -- or it was written, and there was no memory to reserve then: nothing was read
-  pub record StopsUnreserved (head : List (Piece A)) (left_old left_new : Option (List ℕ)) (old new : View K) (fault : RunFault) : Type 0 where
-    pub memory : fault ≡ NoMemory
-    pub reserved : buffering.reserved ≡ true
-    pub unread : left_new ≡ left_old
-    pub headed : Took grows old new head
-
   -- where a fault leaves the devices of a run with a head
   abbrev pub IsHeadedStop : List (Piece A) → Devices K → Devices K → RunFault → Type 0
   IsHeadedStop head old new fault =
-      StopsAtHead head old.left new.left old.outputs new.outputs fault
-      ⊎ (StopsBehindHead head old.left new.left old.outputs new.outputs fault
-      ⊎ StopsUnreserved head old.left new.left old.outputs new.outputs fault)
+      StopsAtHead head old.left new.left old.outputs new.outputs fault ⊎ StopsBehindHead head old.left new.left old.outputs new.outputs fault
 
   -- and without one
   abbrev pub IsStop : Devices K → Devices K → RunFault → Type 0
@@ -143,11 +135,8 @@ module _ {A K : Type 0} (grows : K → K → List A → Type 0) (buffering : Buf
   -- What a fault says of a recording that tells its octets: there is one place up to which its pieces were written; and each fault has its reason.
   pub record StoppedIn (head : List (Piece A)) (old new : View K) (fault : RunFault) (octets : List ℕ) : Type 0 where
     pub cut : AppendsCut grows old new (head ++ pieces text ending w octets)
-    -- something was to be made in memory, and nothing was written of that piece; or memory was to be reserved, and nothing but the
-    -- head was written
-    pub memory : fault ≡ NoMemory
-        → WantsMemory grows buffering old new (head ++ pieces text ending w octets)
-        ⊎ ((buffering.reserved ≡ true) × Took grows old new head)
+    -- something was to be made in memory, and nothing was written of that piece
+    pub memory : fault ≡ NoMemory → WantsMemory grows buffering old new (head ++ pieces text ending w octets)
     -- some octets of that packet aren't there, and nothing of it is reported
     pub refused : fault ≡ Write → buffering.flush ≡ false → RefusesPut grows old new (head ++ pieces text ending w octets)
     -- it has more records than can be counted
@@ -173,7 +162,7 @@ module _ {A K : Type 0} (grows : K → K → List A → Type 0) (buffering : Buf
       → IfSome old.left (StoppedIn [] old.outputs new.outputs fault)
 
 -- How a job ran with a command, into two drains.
-pub record RunsJob (command : Command) (ending : Ending) (job : JobState) (old new : DrainsState) (result : Result Done RunFault) : Type 0 where
+pub record RunsJob (command : Command) (ending : Ending) (job : JobState) (old new : DrainsState) (result : Result CountedRun RunFault) : Type 0 where
   pub sound : IsSoundWork job.work
   -- the drains are the same ones
   pub same_out : new.out_number ≡ old.out_number
@@ -191,7 +180,7 @@ pub record RunsJob (command : Command) (ending : Ending) (job : JobState) (old n
   pub counts : DevicesCounted old.devices new.devices result
 
 -- How a job ran into a shelf and a drain: the same without a head, and a job that is kept is as fresh as it was.
-pub record SplitsJob (ending : Ending) (job : JobState) (old new : ShelfAndDrain) (result : Result Done RunFault) : Type 0 where
+pub record SplitsJob (ending : Ending) (job : JobState) (old new : ShelfAndDrain) (result : Result CountedRun RunFault) : Type 0 where
   pub sound : IsSoundWork job.work
   pub same_report : new.report_number ≡ old.report_number
   pub ran : IfOk result (λ done. Ran Shelves shelf_buffering shelf_text ending job.work [] old.devices new.devices done.records
@@ -200,3 +189,8 @@ pub record SplitsJob (ending : Ending) (job : JobState) (old new : ShelfAndDrain
   pub flushed_report : OnOk result (Keeps new.report_flushed new.devices.outputs.report)
   pub stopped : IfErr result (IsStop Shelves shelf_buffering shelf_text ending job.work old.devices new.devices)
   pub counts : DevicesCounted old.devices new.devices result
+
+-- a call did what this says, and its answer leaves out what was given and lost
+abbrev pub IsUncounted : (Result CountedRun RunFault → Type 0) → Result Done RunFault → Type 0
+IsUncounted did (Ok done) = (totals : Totals) × did (Ok (record { records = done.records; kept = done.kept; totals = totals }))
+IsUncounted did (Err fault) = did (Err fault)

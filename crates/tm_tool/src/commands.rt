@@ -8,7 +8,7 @@ ghost use Rattle.tm_tool.specs.code.Extractors.{IsReady, work_in};
 ghost use Rattle.tm_tool.specs.code.Heads.{HeadStopped, head_text};
 ghost use Rattle.tm_output.specs.Pieces.{buffering_of, text_of};
 ghost use Rattle.tm_tool.specs.Runs.{devices};
-ghost use Rattle.tm_tool.specs.code.Stepping.{RunEndsOrLacksMemory};
+ghost use Rattle.tm_tool.specs.code.Stepping.{RunHasEnded};
 
 use crate::extractor::Extractor;
 use crate::recording::run_into;
@@ -70,7 +70,7 @@ pub(crate) fn run_command<R: BufferedSource, W: Drain, V: Drain>(
     ensures same_out { W.fixed out.new ≡ W.fixed out.old }
     ensures same_report { V.fixed report.new ≡ V.fixed report.old }
     ensures ready { OnOk result (IsReady extractor.new) }
-    ensures runs { RunEndsOrLacksMemory (text_of command.entry) ending (work_in extractor.old) (work_in extractor.new)
+    ensures runs { RunHasEnded (text_of command.entry) ending (work_in extractor.old) (work_in extractor.new)
         Appends (buffering_of command.entry) (devices R.BufferedSource W.Drain V.Drain recording.old out.old report.old)
         (devices R.BufferedSource W.Drain V.Drain recording.new out.new report.new) result }
     ensures flushed_out { OnOk result (Keeps (W.flushed out.new) (W.written out.new)) }
@@ -103,9 +103,7 @@ pub(crate) fn run_command<R: BufferedSource, W: Drain, V: Drain>(
             run_into(extractor, recording, &mut outlet, report, ending)
         }
         Command::BinaryFields(definition, application) => {
-            let Ok(mut rows) = BinaryRows::new(extractor.alloc, definition) else {
-                return Err(RunFault::NoMemory);
-            };
+            let mut rows = BinaryRows::new(extractor.alloc, definition);
             let mut outlet = PacketRows {
                 rows: &mut rows,
                 application,

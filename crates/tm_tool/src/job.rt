@@ -2,7 +2,7 @@
 
 ghost use Rattle.std.specs.Prelude.{◌≡◌, option_map, IfOk, IfSome};
 ghost use Rattle.tm_checkpoint.specs.Works.{new_job};
-ghost use Rattle.tm_tool.specs.Runs.{RunsJob, SplitsJob, drains_state, kept_of, shelf_and_drain};
+ghost use Rattle.tm_tool.specs.Runs.{IsUncounted, RunsJob, SplitsJob, drains_state, kept_of, shelf_and_drain};
 ghost use Rattle.tm_tool.specs.code.Extractors.{IsReady, work_in};
 
 use crate::commands::{run_command, write_csv_head};
@@ -22,8 +22,29 @@ pub struct Done {
     pub records: u32,
     /// The job after them, unless the recording was closed.
     pub kept: Option<Job>,
+}
+
+/// What a run did that also counts.
+#[derive(Drop)]
+pub struct CountedRun {
+    /// The number of records that are done in all.
+    pub records: u32,
+    /// The job after them, unless the recording was closed.
+    pub kept: Option<Job>,
     /// What this run gave and lost, in numbers.
     pub totals: Totals,
+}
+
+impl CountedRun {
+    // What the run did, without its numbers.
+    fn into_done(self) -> Done
+        ensures { result ≡ record { records = self.records; kept = self.kept } }
+    {
+        Done {
+            records: self.records,
+            kept: self.kept,
+        }
+    }
 }
 
 /// The packets of a recording, as far as it has been read.
@@ -85,7 +106,7 @@ impl Job {
 }
 
 /// What was done: the job is kept, unless the ending closed the recording.
-pub(crate) fn make_done(extractor: Extractor, fresh: bool, ending: Ending, totals: Totals) -> Done
+pub(crate) fn make_counted(extractor: Extractor, fresh: bool, ending: Ending, totals: Totals) -> CountedRun
     requires ready { IsReady extractor }
     ensures totals { result.totals ≡ totals }
     ensures records { result.records ≡ extractor.reassembly.state.records }
@@ -97,7 +118,7 @@ pub(crate) fn make_done(extractor: Extractor, fresh: bool, ending: Ending, total
         Ending::Close => None,
         Ending::Keep | Ending::StopAfter(_) => Some(Job { extractor, fresh }),
     };
-    Done {
+    CountedRun {
         records,
         kept,
         totals,
@@ -114,8 +135,7 @@ pub(crate) fn make_done(extractor: Extractor, fresh: bool, ending: Ending, total
 ///
 /// `Read`, `Write` or `Report` where a call of that device failed. `ShortRecording` where there are fewer whole records than are done.
 /// `TooMany` where a whole record follows 2^32 - 1. `NoMemory` where a line for the report can't be made, or with `Fields` the head
-/// or a row. With `BinaryFields` a row's memory is reserved before the recording is read: without it `NoMemory` comes there. The job is
-/// given up.
+/// or a row, or with `BinaryFields` the first row. The job is given up.
 pub fn run<R: BufferedSource, W: Drain, V: Drain>(
     alloc: Global,
     job: Job,
@@ -126,6 +146,30 @@ pub fn run<R: BufferedSource, W: Drain, V: Drain>(
     ending: Ending,
 ) -> Result<Done, RunFault>
     // With Ok just the pieces of what was read were written. After a fault they were written up to one place.
+    ensures { IsUncounted (RunsJob command.entry ending job
+        (drains_state R.BufferedSource W.Drain V.Drain recording.old out.old report.old)
+        (drains_state R.BufferedSource W.Drain V.Drain recording.new out.new report.new)) result }
+{
+    match run_and_count(alloc, job, command, recording, out, report, ending) {
+        Ok(counted) => Ok(counted.into_done()),
+        Err(fault) => Err(fault),
+    }
+}
+
+/// Runs as `run` does, and also answers what was given and lost, in numbers.
+///
+/// # Errors
+///
+/// As `run`.
+pub fn run_and_count<R: BufferedSource, W: Drain, V: Drain>(
+    alloc: Global,
+    job: Job,
+    command: Command<'_>,
+    recording: &mut R,
+    out: &mut W,
+    report: &mut V,
+    ending: Ending,
+) -> Result<CountedRun, RunFault>
     ensures { RunsJob command.entry ending job
         (drains_state R.BufferedSource W.Drain V.Drain recording.old out.old report.old)
         (drains_state R.BufferedSource W.Drain V.Drain recording.new out.new report.new) result }
@@ -138,7 +182,7 @@ pub fn run<R: BufferedSource, W: Drain, V: Drain>(
         return Err(fault);
     }
     match run_command(command, &mut extractor, recording, out, report, ending) {
-        Ok(totals) => Ok(make_done(extractor, false, ending, totals)),
+        Ok(totals) => Ok(make_counted(extractor, false, ending, totals)),
         Err(fault) => Err(fault),
     }
 }
@@ -157,6 +201,28 @@ pub fn split<R: BufferedSource, H: Shelf, V: Drain>(
     report: &mut V,
     ending: Ending,
 ) -> Result<Done, RunFault>
+    ensures { IsUncounted (SplitsJob ending job
+        (shelf_and_drain R.BufferedSource H.Shelf V.Drain recording.old shelf.old report.old)
+        (shelf_and_drain R.BufferedSource H.Shelf V.Drain recording.new shelf.new report.new)) result }
+{
+    match split_and_count(job, recording, shelf, report, ending) {
+        Ok(counted) => Ok(counted.into_done()),
+        Err(fault) => Err(fault),
+    }
+}
+
+/// Splits as `split` does, and also answers what was given and lost, in numbers.
+///
+/// # Errors
+///
+/// As `split`.
+pub fn split_and_count<R: BufferedSource, H: Shelf, V: Drain>(
+    job: Job,
+    recording: &mut R,
+    shelf: &mut H,
+    report: &mut V,
+    ending: Ending,
+) -> Result<CountedRun, RunFault>
     ensures { SplitsJob ending job
         (shelf_and_drain R.BufferedSource H.Shelf V.Drain recording.old shelf.old report.old)
         (shelf_and_drain R.BufferedSource H.Shelf V.Drain recording.new shelf.new report.new) result }
@@ -167,7 +233,7 @@ pub fn split<R: BufferedSource, H: Shelf, V: Drain>(
     } = job;
     let mut outlet = PacketShelf { shelf };
     match run_into(&mut extractor, recording, &mut outlet, report, ending) {
-        Ok(totals) => Ok(make_done(extractor, fresh, ending, totals)),
+        Ok(totals) => Ok(make_counted(extractor, fresh, ending, totals)),
         Err(fault) => Err(fault),
     }
 }

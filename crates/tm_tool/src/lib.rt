@@ -13,7 +13,7 @@ mod record_loop;
 mod recording;
 mod summary;
 
-pub use job::{Done, Job, run, split};
+pub use job::{CountedRun, Done, Job, run, run_and_count, split, split_and_count};
 pub use listing::{Listed, list_frames, list_recording};
 pub use listing_run::list_with_job;
 pub use summary::{Summed, sum_up, summarize};

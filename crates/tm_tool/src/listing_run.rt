@@ -12,7 +12,7 @@ ghost use Rattle.tm_tool.specs.code.Listed.{drain_devices};
 ghost use Rattle.tm_tool.specs.code.ListingRuns.{ListingRunEnded, listing_run_fixture};
 
 use crate::extractor::Extractor;
-use crate::job::{Done, Job, make_done};
+use crate::job::{CountedRun, Job, make_counted};
 use crate::listing::{make_reading_line, write_end_line};
 use crate::nowhere::Nowhere;
 use crate::record_loop::{RecordHandler, handle_records};
@@ -199,7 +199,7 @@ pub fn list_with_job<R: BufferedSource, W: Drain>(
     recording: &mut R,
     out: &mut W,
     ending: Ending,
-) -> Result<Done, RunFault>
+) -> Result<CountedRun, RunFault>
     ensures same { W.fixed out.new ≡ W.fixed out.old }
     ensures lists { ListsWithJob ending job (drain_devices R.BufferedSource W.Drain recording.old out.old)
         (drain_devices R.BufferedSource W.Drain recording.new out.new) result }
@@ -219,7 +219,7 @@ pub fn list_with_job<R: BufferedSource, W: Drain>(
         &mut report,
         ending,
     ) {
-        Ok(totals) => Ok(make_done(extractor, false, ending, totals)),
+        Ok(totals) => Ok(make_counted(extractor, false, ending, totals)),
         Err(fault) => Err(fault),
     }
 }

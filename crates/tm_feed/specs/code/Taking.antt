@@ -6,7 +6,7 @@ use Rattle.tm_checkpoint.specs.Works.{IsGoing, work_of}
 use Rattle.tm_output.specs.Records.{records, rest_of}
 use Rattle.tm_tool.specs.RecordingPieces.{items_of, worked}
 use Rattle.tm_feed.specs.declared.job.StopReason.{StopReason}
-use Rattle.tm_feed.specs.declared.job.StopReason.TheVariants.{Done, Room, TooMany, Closed}
+use Rattle.tm_feed.specs.declared.job.StopReason.TheVariants.{Done, Room, TooSmall, TooMany, Closed}
 use Rattle.tm_feed.specs.Jobs.{IsFull, all_events_most, octets_most}
 use Rattle.tm_feed.specs.Choosing.{FitRows}
 use Rattle.tm_feed.specs.code.Sinking.{SinkState, after_items}
@@ -28,5 +28,6 @@ pub record HasRoom (limit : ℕ) (s : SinkState) : Type 0 where
 abbrev pub StopsAdding : StopReason → Progress → SinkState → Type 0
 StopsAdding Done p s = ⊥
 StopsAdding Room p s = IsFull p.rules.max_packet s.fixture.chosen.longest s.fixture.event_room (length s.events) s.fixture.octet_room (length s.octets)
+StopsAdding TooSmall p s = ⊥
 StopsAdding TooMany p s = p.state.records ≡ most_records
 StopsAdding Closed p s = ⊥

@@ -1,8 +1,7 @@
 -- What a run does with records, and with all that its ending reads: for private contracts.
-use Rattle.std.specs.Prelude.{◌≡◌, ◌⊎◌, ℕ, true, List, [], ◌∷◌, Result, Err}
+use Rattle.std.specs.Prelude.{◌≡◌, ℕ, List, [], ◌∷◌, Result}
 use Rattle.tm_frame.specs.Rules.{Rules}
 use Rattle.tm_faults.specs.declared.run.RunFault.{RunFault}
-use Rattle.tm_faults.specs.declared.run.RunFault.TheVariants.{NoMemory}
 use Rattle.tm_output.specs.declared.command.Ending.{Ending}
 use Rattle.tm_output.specs.declared.command.Ending.TheVariants.{Close, Keep, StopAfter}
 use Rattle.tm_tool.specs.Courses.{HasEnded}
@@ -78,8 +77,3 @@ module _ {A : Type 0} (text : Texts A) (ending : Ending) (w left : Work) where
   -- how it ended
   abbrev pub RunHasEnded : {K : Type 0} → (K → K → List A → Type 0) → Buffering → Devices K → Devices K → Result Totals RunFault → Type 0
   RunHasEnded grows buffering old new r = HasEnded grows buffering (course text ending w) old new Leaves r
-
-  -- it ended so; or it didn't begin, since memory was to be reserved and there was none
-  abbrev pub RunEndsOrLacksMemory : {K : Type 0} → (K → K → List A → Type 0) → Buffering → Devices K → Devices K → Result Totals RunFault → Type 0
-  RunEndsOrLacksMemory grows buffering old new r =
-      ((r ≡ Err NoMemory) × (buffering.reserved ≡ true) × (new ≡ old)) ⊎ RunHasEnded grows buffering old new r

@@ -1,7 +1,6 @@
 use Rattle.std.proofs.Common.{◌≡◌, ◌∙◌, refl, sym, true, rules}
 use Rattle.std.specs.Prelude.{◌==◌}
 use Rattle.std.proofs.KnownBytes.{Appends-nil}
-use Rattle.tm_fields.specs.declared.rows.RowForm.TheVariants.{Text}
 use Rattle.tm_output.proofs.RowLemmas.{some_tabled, tabled_is}
 use Rattle.tm_output.proofs.outlet.write_row.Goals as goal
 
@@ -19,5 +18,4 @@ returns-in-Err-NoMemory-clause-stopped g c =
     let some =
     some_tabled g.R.RowWriter.form (g.R.RowWriter.fields c.args.rows.now) c.args.application c.args.packet.now.seen c.args.packet.now.channel c.args.packet.now.first c.args.packet.now.place c.args.packet.now.octets.now c.args.packet.now.header
     c.requires.header wanted (λ less. cc (c.write.ensures.short less)) in
-    let text : g.R.RowWriter.form ≡ Text = search rules in
-    (rw text refl, some, refl, Appends-nil _)
+    (refl, some, refl, Appends-nil _)

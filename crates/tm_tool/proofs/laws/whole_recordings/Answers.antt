@@ -1,4 +1,4 @@
-use Rattle.std.proofs.Common.{[], inl, inr}
+use Rattle.std.proofs.Common.{[], inr}
 use Rattle.std.specs.Io.KnownBytes.{Appends}
 use Rattle.std.proofs.KnownBytes.{Appends-nil, Appends-trans}
 use Rattle.tm_output.specs.Shelves.{Shelves}
@@ -23,4 +23,4 @@ returns-clause-split_ran c ending w old new count kept totals sound h =
 pub returns-clause-split_stopped : goal.returns-clause-split_stopped
 returns-clause-split_stopped c ending w old new fault sound h =
     stop_told Shelves shelves_nil shelves_trans _ _ ending w [] sound.0 sound.1 old.failures new.failures new.left old.outputs new.outputs fault old.left
-    (inr (inl (record { mid = old.outputs; headed = took_none Shelves shelves_nil shelves_trans old.outputs; stopped = h })))
+    (inr (record { mid = old.outputs; headed = took_none Shelves shelves_nil shelves_trans old.outputs; stopped = h }))

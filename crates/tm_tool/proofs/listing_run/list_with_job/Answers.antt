@@ -11,8 +11,8 @@ returns-in-Ok-clause-lists g c =
     let both = c.in-Ok.ensures.runs in
     record {
       sound = rw (← c.job.view_is) (c.job.invariant.going.1, some);
-      listed = rw (← c.job.view_is, c.make_done.ensures.records) both.lines;
-      ran = rw (← c.job.view_is, c.make_done.ensures.records, c.make_done.ensures.kept, c.make_done.ensures.totals)
+      listed = rw (← c.job.view_is, c.make_counted.ensures.records) both.lines;
+      ran = rw (← c.job.view_is, c.make_counted.ensures.records, c.make_counted.ensures.kept, c.make_counted.ensures.totals)
           (ran_behind Appends Appends-nil Appends-trans _ _ _ _ c.job.invariant.going.1 some _ _ _ _ _ _ _ _ _ _ (took_none Appends Appends-nil Appends-trans _) both.run);
       fresh = search rules;
       stopped = tt;

@@ -1,6 +1,6 @@
 use Rattle.std.proofs.Common.{rules, arith}
 use Rattle.tm_tool.proofs.RunPieces.{ran_split}
-use Rattle.tm_tool.proofs.job.split.Goals as goal
+use Rattle.tm_tool.proofs.job.split_and_count.Goals as goal
 
 pub returns-in-Ok : goal.returns-in-Ok
 returns-in-Ok g c = record {

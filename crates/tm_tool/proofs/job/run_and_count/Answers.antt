@@ -1,10 +1,10 @@
-use Rattle.std.proofs.Common.{ℕ, ◌<◌, refl, inl, subst, rules, arith}
+use Rattle.std.proofs.Common.{ℕ, ◌<◌, refl, inl, inr, subst, rules, arith}
 use Rattle.std.proofs.lemmas.Grind.{common_steps}
 use Rattle.std.specs.Io.KnownBytes.{Appends}
 use Rattle.std.proofs.KnownBytes.{Appends-nil, Appends-trans}
-use Rattle.tm_tool.proofs.HeadedRuns.{counts_reserved, head_stopped, head_took, ran_reserved, stop_reserved}
+use Rattle.tm_tool.proofs.HeadedRuns.{head_stopped, head_took}
 use Rattle.tm_tool.proofs.RunPieces.{ran_behind}
-use Rattle.tm_tool.proofs.job.run.Goals as goal
+use Rattle.tm_tool.proofs.job.run_and_count.Goals as goal
 
 pub returns-in-Ok : goal.returns-in-Ok
 returns-in-Ok g c =
@@ -13,9 +13,9 @@ returns-in-Ok g c =
       sound = rw (← c.job.view_is) (c.job.invariant.going.1, some);
       same_out = search rules;
       same_report = search rules;
-      ran = rw (← c.job.view_is, c.make_done.ensures.records, c.make_done.ensures.kept, c.make_done.ensures.totals)
+      ran = rw (← c.job.view_is, c.make_counted.ensures.records, c.make_counted.ensures.kept, c.make_counted.ensures.totals)
           (ran_behind Appends Appends-nil Appends-trans _ _ _ _ c.job.invariant.going.1 some _ _ _ _ _ _ _ _ _ _
-          (head_took _ c.args.command c.job.inside.fresh c.in_default.ensures.whole) (ran_reserved Appends _ _ _ _ _ _ _ _ c.in-Ok.ensures.runs).0);
+          (head_took _ c.args.command c.job.inside.fresh c.in_default.ensures.whole) c.in-Ok.ensures.runs.0);
       fresh = search rules;
       flushed_out = search rules;
       flushed_report = search rules;
@@ -42,7 +42,6 @@ returns-in-Err g c =
 pub returns-in-Err-run_command : goal.returns-in-Err-run_command
 returns-in-Err-run_command g c =
     let some = subst (λ (n : ℕ). 0 < n) c.job.invariant.exact c.job.invariant.some in
-    let counts = counts_reserved _ _ _ c.in-Err-run_command.ensures.runs in
     record {
       sound = rw (← c.job.view_is) (c.job.invariant.going.1, some);
       same_out = search rules;
@@ -52,7 +51,6 @@ returns-in-Err-run_command g c =
       flushed_out = tt;
       flushed_report = tt;
       stopped = rw (← c.job.view_is)
-          (stop_reserved Appends _ _ _ _ _ _ _ _ _ _ _ _ _
-          (head_took _ c.args.command c.job.inside.fresh c.in_default.ensures.whole) c.in-Err-run_command.ensures.runs);
+          (inr (record { mid = _; headed = head_took _ c.args.command c.job.inside.fresh c.in_default.ensures.whole; stopped = c.in-Err-run_command.ensures.runs.0 }));
       counts = grind (arith, common_steps);
     }

@@ -2,9 +2,12 @@
 
 import math
 import os
+import random
 import struct
 import unittest
-from datetime import datetime
+import warnings
+from datetime import datetime, timedelta
+from fractions import Fraction
 from pathlib import Path
 from unittest import mock
 
@@ -15,7 +18,7 @@ from tmx import values
 from tmx.leap_seconds import SYSTEM
 from tmx.time_codes import code_of
 
-PLACES = [f"tmx.{it}.module" for it in ("values", "fields", "times", "arrays", "decoding", "xtce")]
+PLACES = [f"tmx.{it}.module" for it in ("values", "fields", "times", "time_codes", "arrays", "decoding", "xtce")]
 # Rows of the table of the IERS, in seconds from 1900: TAI is 10, 19, 36 and 37 seconds ahead from 1972, 1980, July 2015 and 2017 on.
 TABLE = "#@\t3991593600\n2272060800\t10\t# 1 Jan 1972\n2524521600\t19\n3644697600\t36\n3692217600\t37\n"
 NEW_YEAR = datetime(2017, 1, 1)
@@ -38,6 +41,10 @@ class WithModules(TestCase):
 def column(payloads: list[bytes], kind: str, **how) -> tmx.Fields:
     """The table of one column A, decoded."""
     return rows_of(payloads, f"A,{kind},{8 * len(payloads[0])}\n").decoded(**{key: {"A": it} for key, it in how.items()})
+
+
+def after_1970(microseconds: int) -> datetime:
+    return datetime(1970, 1, 1) + timedelta(microseconds=microseconds)
 
 
 def octets(numbers) -> list[bytes]:
@@ -126,6 +133,42 @@ class Columns:
         table = column([struct.pack(">d", 43200.5)], "float", times=tmx.Ticks("2000-01-01", 1, "-0.25"))
         self.assertEqual(dates(table["A"]), [at.replace(microsecond=250_000)])
 
+    def test_times_of_floats(self) -> None:
+        """Eighths of a second, milliseconds and microseconds, worked out in whole microseconds."""
+        chance = random.Random(1)
+        wanted = [2113216822_250_000, 1700000000_123_000, 0, -1, -1_000, -125_000]
+        for step, most in ((125_000, 2**33), (1_000, 2**32), (1, 2**31)):  # up to `most` seconds a double tells the steps apart
+            wanted += [chance.randrange(-most * 10**6, most * 10**6, step) for _ in range(300)]
+        payloads = [struct.pack(">d", float(Fraction(it, 10**6))) for it in wanted]
+        dated = [after_1970(it) for it in wanted]
+        self.assertEqual(dates(column(payloads, "float", times=tmx.Ticks("1970-01-01"))["A"]), dated)
+        self.assertEqual(dates(column(payloads, "str", times=tmx.TimeCode(">f8"))["A"]), dated)
+        self.assertEqual(dates(column([it[::-1] for it in payloads], "str", times=tmx.TimeCode("<f8"))["A"]), dated)
+
+    def test_halves_of_microseconds(self) -> None:
+        """The later one is taken."""
+        floats = (0.5, 1.5, 2.5, -0.5, -1.5, 0.49999999999999994, -0.5000000000000001, 2.0**51 + 0.5)
+        table = column([struct.pack(">d", it) for it in floats], "float", times=tmx.Ticks("1970-01-01", "0.000001"))
+        self.assertEqual(dates(table["A"]), [after_1970(it) for it in (1, 2, 3, 0, -1, 0, -1, 2**51 + 1)])
+        codes = [struct.pack(">d", it / 2**7) for it in (1, 3, 5, -1, -3)]  # 7812.5 microseconds and more
+        wanted = [after_1970(it) for it in (7813, 23438, 39063, -7812, -23437)]
+        self.assertEqual(dates(column(codes, "str", times=tmx.TimeCode(">f8"))["A"]), wanted)
+
+    def test_lengths_that_are_floats(self) -> None:
+        """A float of up to 15 digits is the decimal that was written, and each other one its binary value."""
+        for seconds, offset, raw, wanted in (
+            (0.7, 0, 10, 7_000_000),
+            (0.3, 0, 10, 3_000_000),
+            (0.001, 0, 1700000000_123, 1700000000_123_000),
+            (1, 0.3, 7, 7_300_000),
+            (2.0**-32, 0, 1700000000 << 32 | 1 << 31, 1700000000_500_000),
+            (2.0**-16, -0.25, 3 << 14, 500_000),
+        ):
+            times = column([raw.to_bytes(8, "big")], "uint", times=tmx.Ticks("1970-01-01", seconds, offset))["A"]
+            self.assertEqual(dates(times), [after_1970(wanted)], seconds)
+            if hasattr(times, "dtype"):
+                self.assertEqual(times.astype("int64").tolist(), [wanted * 1000], seconds)
+
     def test_octets_that_are_no_time(self) -> None:
         codes = [b"\x41" + bytes(8), b"\x40" + bytes(8), b"\x41" + bytes(2) + (86_401_000).to_bytes(4, "big") + bytes(2)]
         table = column(codes, "str", times=tmx.TimeCode("cds"))
@@ -187,6 +230,24 @@ class Columns:
         self.raises(TypeError, None, tmx.Ticks, "TAI", None)
 
 
+EDGES = (-(2**63), -(2**63) + 10**10, -1, 0, 10**9, 14832288 * 10**11 + 36 * 10**9, 2**63 - 10**10, 2**63)  # in nanoseconds from 1970
+AHEAD = ((0, 10), (2524521600, 19), (3644697600, 36), (3692217600, 37))  # as TABLE has it, and before 1972 as then
+
+
+def wanted_time(number: int | float, second: int, factor: Fraction, offset: Fraction, has_leaps: bool) -> int | None:
+    """The nanoseconds from 1970 in UTC; None where numpy has no such time.  Second 0 is so many seconds behind 1970."""
+    if not math.isfinite(number):
+        return None
+    passed = Fraction(number) * factor + offset
+    exact = math.floor(passed * 10**6 + Fraction(1, 2)) * 1000 if isinstance(number, float) else math.floor(passed * 10**9)
+    exact += second * 10**9
+    if not -(2**63) < exact < 2**63:
+        return None
+    if has_leaps:
+        exact -= [ahead for utc, ahead in AHEAD if exact >= (utc - 2208988800 + ahead) * 10**9 or not utc][-1] * 10**9
+    return exact if -(2**63) < exact else None
+
+
 class AsLists(Columns, WithModules):
     def setUp(self) -> None:
         super().setUp()
@@ -209,6 +270,41 @@ class AsArrays(Columns, WithModules):
         self.assertEqual(tmx.Settings(42, 256, numpy.bool_(True)).toml(), tmx.Settings(42, 256, True).toml())
         for key in (numpy.uint8(255), numpy.int64(255)):
             self.assertEqual(list(column(octets([255]), "uint", labels={key: "ON"})["A"]), ["ON"])
+
+    def test_ticks_beside_fractions(self) -> None:
+        """Numbers of all sizes, worked out by fractions; without numpy the microseconds are the same."""
+        import numpy
+
+        chance = random.Random(2)
+        self.table()
+        seconds = ["1", "0.001", "1e-9", "1/65536", "86400", "1/3", Fraction(1, 2**56), Fraction(10**9, 7), -1, 0]
+        offsets = [0, "-0.25", "1e9", "1/3", -(10**12), "3e17"]
+        epochs = {"1970-01-01": 0, "0001-01-01": -719162 * 86400, "9999-12-31": 2932896 * 86400, "TAI": -4383 * 86400, "GPS": 315964819}
+        for number, (epoch, second) in enumerate(epochs.items()):
+            for unit in seconds:
+                factor, offset = Fraction(unit), Fraction(offsets[(number + seconds.index(unit)) % len(offsets)])
+                near = [(Fraction(it, 10**9) - second - offset) / (factor or 1) for it in EDGES]
+                whole = [math.floor(it) + more for it in near for more in (-1, 0, 1, 2)]
+                whole += [chance.getrandbits(chance.randrange(1, 65)) for _ in range(40)]
+                floats = [it for exact in [*whole, *near] for it in (float(exact), math.nextafter(float(exact), math.inf))]
+                floats += [math.nan, math.inf, -math.inf, 1e300, 5e-324, -0.0, *(chance.uniform(-1, 1) ** 9 * 1e19 for _ in range(40))]
+                floats += [chance.randrange(-(10**16), 10**16) / 2**20 for _ in range(40)]
+                for kind, least, most in (("uint64", 0, 2**64), ("int64", -(2**63), 2**63), ("int8", -128, 128), ("float64", 0, 0)):
+                    values = [it for it in whole if least <= it < most] if most else floats
+                    array, ticks = numpy.array(values, kind), tmx.Ticks(epoch, unit, offset)
+                    wanted = [wanted_time(it, second, factor, offset, epoch in ("TAI", "GPS")) for it in values]
+                    with warnings.catch_warnings():
+                        warnings.simplefilter("error")
+                        warnings.simplefilter("ignore", tmx.TmxWarning)
+                        times, none = ticks.times("A", array)
+                        lists, _ = ticks.times("A", values)
+                    found = [None if it == -(2**63) else it for it in times.astype("int64").tolist()]
+                    self.assertEqual((found, none), (wanted, wanted.count(None)), (epoch, unit, offset, kind))
+                    self.assertEqual(lists.tolist(), times.tolist())
+                    with mock.patch("tmx.times.module", lambda name: None), mock.patch("tmx.time_codes.module", lambda name: None):
+                        told = ticks.times("A", values)[0]
+                    kept = [(it, time) for it, time in zip(told, found) if time is not None]
+                    self.assertEqual([it for it, _ in kept], [after_1970(time // 1000) for _, time in kept])
 
     def test_calibrators_beside_numpy(self) -> None:
         import numpy

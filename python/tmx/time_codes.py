@@ -1,16 +1,17 @@
 """Time codes of CCSDS 301.0-B-4 and counts of seconds: how a time stands in octets or in a number."""
 
-import math
 import re
 import struct
 from collections.abc import Iterable
-from dataclasses import dataclass
+from dataclasses import dataclass, replace
 from fractions import Fraction
 from typing import Any
 
 from .errors import ColumnError
 from .leap_seconds import NANOSECONDS
-from .times import Epoch, clock_of, times_of
+from .scaling import Scale, floors, in_64_bits, nearests, scale_of
+from .times import LAST, NONE, Clock, Epoch, clock_of, times_of, utc_of_array
+from .values import module
 
 SECOND, DAY = 10**6, 86400 * 10**6  # in microseconds
 EPOCHS = {"cds": "1958-01-01", ">f8": "1970-01-01", "<f8": "1970-01-01"}  # of second 0, where none is given
@@ -41,7 +42,7 @@ class Code:
     def passed(self, octets: bytes, second: int = SECOND) -> int | None:
         """The time behind second 0, in so many parts of a second, rounded down; None where the octets are no such time.
 
-        Floats are rounded down to microseconds, since most have no more.
+        A float is the nearest microsecond, since most have no more, and of two the later.
         """
         if len(octets) < self.octets or not octets.startswith(self.lead):
             return None
@@ -51,7 +52,8 @@ class Code:
         if self.kind == "cuc":
             return int.from_bytes(said) * second >> 8 * self.fine
         (seconds,) = struct.unpack(f"{self.kind[0]}d", said)
-        return math.floor(seconds * SECOND) * (second // SECOND) if math.isfinite(seconds) else None
+        found = Scale(SECOND, 0, 1).nearest(seconds)
+        return None if found is None else found * (second // SECOND)
 
     def of_days(self, said: bytes, second: int) -> int | None:
         days, milliseconds = int.from_bytes(said[: self.coarse]), int.from_bytes(said[self.coarse : self.coarse + 4])
@@ -122,8 +124,8 @@ class Ticks:
     """Times in a column of numbers: so many seconds to each, and so many more, behind second 0.
 
     epoch    the time of second 0, or a scale: `TAI`, `GPS`, `J2000` or `UNIX`
-    seconds  how long one is, as a number or a text, "0.001"
-    offset   the seconds that are added
+    seconds  how long one is, as a number or a text, "0.001"; a float of up to 15 digits is the decimal that was written
+    offset   the seconds that are added, in the same way
 
     Raises ValueError where a text is no number, or a number not finite.
     """
@@ -136,29 +138,55 @@ class Ticks:
         fraction_of(self.seconds), fraction_of(self.offset)
 
     def times(self, name: str, values: Any) -> tuple[Any, int]:
-        """The time of each value, rounded down, of floats to microseconds, and how many are none.
+        """The time of each value, and how many are none: of a whole number rounded down, of a float the nearest microsecond.
 
-        Raises ColumnError where the column has no numbers.
+        Of two that are as near the later one is taken.  Raises ColumnError where the column has no numbers.
         """
+        seconds, offset = fraction_of(self.seconds), fraction_of(self.offset)
+        nanoseconds, microseconds = (scale_of(seconds, offset, it) for it in (NANOSECONDS, SECOND))
+        numpy, clock = module("numpy"), clock_of(self.epoch)
+        if numpy is not None and isinstance(values, numpy.ndarray) and values.dtype.kind in "uif" and values.ndim == 1:
+            counted = counted_in_array(numpy, values, nanoseconds, microseconds, clock)
+            if counted is not None:
+                return utc_of_array(numpy, counted, clock)
         numbers = values.tolist() if hasattr(values, "tolist") else list(values)
         if not all(isinstance(it, (int, float)) for it in numbers):
             raise ColumnError(f"the column {name!r} has no numbers, and ticks are numbers: see TimeCode")
-        factor, offset = fraction_of(self.seconds) * NANOSECONDS, fraction_of(self.offset) * NANOSECONDS
-        whole = factor.denominator * offset.denominator
-        factors = int(factor * whole), int(offset * whole)
-        return times_of((passed_of(it, *factors, whole) for it in numbers), clock_of(self.epoch))
+        return times_of((passed_of(it, nanoseconds, microseconds) for it in numbers), clock)
 
 
 def fraction_of(number: Any) -> Fraction:
-    """The value of a number, also of numpy's, or of a text.  Raises TypeError and ValueError where it is none."""
+    """The value of a number, also of numpy's, or of a text.  Raises TypeError and ValueError where it is none.
+
+    A float of up to 15 digits is the decimal that it was written as: 0.001 is a thousandth.
+    """
     try:
-        return Fraction(number.item() if hasattr(number, "item") else number)
-    except ArithmeticError:
+        value = number.item() if hasattr(number, "item") else number
+        said = f"{value:.15g}" if isinstance(value, float) else ""
+        return Fraction(said if said and float(said) == value else value)
+    except (ArithmeticError, ValueError):
         raise ValueError(f"{number!r} is no number of seconds") from None
 
 
-def passed_of(number: int | float, factor: int, offset: int, whole: int) -> int | None:
-    """The nanoseconds of a number, in whole microseconds of a float; None where that is not finite."""
+def passed_of(number: int | float, nanoseconds: Scale, microseconds: Scale) -> int | None:
+    """The nanoseconds of a number, of a float the nearest microseconds; None where that is not finite."""
     if isinstance(number, int):
-        return (number * factor + offset) // whole
-    return math.floor((number * factor + offset) / (whole * 1000)) * 1000 if math.isfinite(number) else None
+        return nanoseconds.floor(number)
+    found = microseconds.nearest(number)
+    return None if found is None else found * 1000
+
+
+def counted_in_array(numpy: Any, values: Any, nanoseconds: Scale, microseconds: Scale, clock: Clock) -> Any:
+    """The times of an array of numbers, in nanoseconds from 1970 by the clock's scale; None where 64 bits are too few for a scale."""
+    if values.dtype.kind == "f":
+        least, most = -((clock.begin - clock.first) // 1000), (LAST - clock.begin) // 1000
+        found = nearests(numpy, values, microseconds, least, most)
+        step, begin = 1000, clock.begin
+    else:
+        shifted = replace(nanoseconds, offset=nanoseconds.offset + clock.begin * nanoseconds.whole)
+        found = floors(numpy, values, shifted, clock.first, LAST)
+        step, begin = 1, 0
+    if found is None:
+        return None
+    counted, is_there = found
+    return numpy.where(is_there, counted * step + in_64_bits(begin), NONE)

@@ -30,6 +30,11 @@ class Clock:
     begin: int
     leaps: LeapSeconds | None = None
 
+    @property
+    def first(self) -> int:
+        """The first time that has its UTC in a datetime64[ns]."""
+        return FIRST if self.leaps is None else FIRST + self.leaps.ahead[0]
+
     def utc(self, passed: int) -> int:
         """The nanoseconds from 1970 in UTC, so many nanoseconds behind second 0."""
         return self.begin + passed if self.leaps is None else self.leaps.utc(self.begin + passed)
@@ -47,14 +52,25 @@ def clock_of(epoch: Epoch) -> Clock:
 
 def times_of(passed: Iterable[int | None], clock: Clock) -> tuple[Any, int]:
     """The time so many nanoseconds behind second 0, for each, and how many are none or out of range, as `times` gives both."""
-    found, numpy = [None if it is None else clock.utc(it) for it in passed], module("numpy")
-    if clock.leaps is not None:
-        clock.leaps.warn_of_late(max((it for it in found if it is not None), default=0))
+    numpy = module("numpy")
     if numpy is None:
+        found = [None if it is None else clock.utc(it) for it in passed]
+        if clock.leaps is not None:
+            clock.leaps.warn_of_late(max((it for it in found if it is not None), default=0))
         dates = [None if it is None else time_at(it // 1000) for it in found]
         return dates, dates.count(None)
-    kept = numpy.array([it if it is not None and FIRST <= it <= LAST else NONE for it in found], "int64")
-    return kept.view("datetime64[ns]"), int((kept == NONE).sum())
+    begin, first = clock.begin, clock.first
+    counted = [NONE if it is None or not first <= begin + it <= LAST else begin + it for it in passed]
+    return utc_of_array(numpy, numpy.array(counted, "int64"), clock)
+
+
+def utc_of_array(numpy: Any, counted: Any, clock: Clock) -> tuple[Any, int]:
+    """The UTC of a clock's times, in nanoseconds behind 1970 as an array of int64, and how many are none.  The array is used."""
+    none = counted == NONE
+    if clock.leaps is not None:
+        counted[~none] = clock.leaps.utc_of_array(numpy, counted[~none])
+        clock.leaps.warn_of_late(int(counted.max(initial=0)))
+    return counted.view("datetime64[ns]"), int(none.sum())
 
 
 def times(seconds: Any, fractions: Any, bits: int, epoch: Epoch) -> tuple[Any, int]:
@@ -67,12 +83,7 @@ def times(seconds: Any, fractions: Any, bits: int, epoch: Epoch) -> tuple[Any, i
     if numpy is None:
         pairs = zip(seconds, fractions or [0] * len(seconds))
         return times_of((second * NANOSECONDS + (fraction * NANOSECONDS >> bits) for second, fraction in pairs), clock)
-    found, bad = array_of_times(numpy, seconds.astype("uint64"), fractions, bits, clock.begin)
-    if clock.leaps is not None:
-        counted, none = found.view("int64"), numpy.isnat(found)
-        counted[~none] = clock.leaps.utc_of_array(numpy, counted[~none])
-        clock.leaps.warn_of_late(int(counted.max(initial=0)))
-    return found, bad
+    return utc_of_array(numpy, array_of_times(numpy, seconds.astype("uint64"), fractions, bits, clock.begin), clock)
 
 
 def time_at(microseconds: int) -> datetime | None:
@@ -83,7 +94,7 @@ def time_at(microseconds: int) -> datetime | None:
         return None
 
 
-def array_of_times(numpy: Any, seconds: Any, fractions: Any, bits: int, begin: int) -> tuple[Any, int]:
+def array_of_times(numpy: Any, seconds: Any, fractions: Any, bits: int, begin: int) -> Any:
     """All is worked out modulo 2^64, so only what comes out has to be in range."""
     least, most = max(0, -((begin - FIRST) // NANOSECONDS)), (LAST - begin) // NANOSECONDS - 1
     bad = numpy.ones(len(seconds), bool)
@@ -95,7 +106,7 @@ def array_of_times(numpy: Any, seconds: Any, fractions: Any, bits: int, begin: i
         high, rest = divmod(fractions.astype("uint64"), 2**low)
         found += high * NANOSECONDS + (rest * NANOSECONDS >> low) >> bits - low
     found[bad] = NONE % 2**64
-    return found.view("datetime64[ns]"), int(bad.sum())
+    return found.view("int64")
 
 
 def nanoseconds(epoch: Epoch) -> int:

@@ -309,6 +309,53 @@ class Arrays(Columns, TestCase):
         self.assertEqual(int(fields["ANGLE_X"].max()), 900)
 
 
+@needs("numpy")
+class OtherTables(TestCase):
+    """What others make of a table that is given to them as it is."""
+
+    def tables(self) -> list[tmx.Fields]:
+        timed = example().fields(ATTITUDE, 101, time=("SECONDS", "FRACTION"), epoch="2000-01-01")
+        arrays = rows_of([b"abcd", b"efgh"], "A,uint,16\nS,str,16\n", arrays={"S": ">u1"})
+        return [timed, timed.decoded(labels={"MODE": {0: "OFF"}}), arrays, rows_of([b"ab"], "A,uint,16\n")]
+
+    def test_a_mapping(self) -> None:
+        table = self.tables()[-1]
+        names = ["tm_record", "tm_channel", "tm_apid", "tm_count", "A"]
+        self.assertEqual((list(table), list(table.keys()), len(table), "A" in table, "B" in table), (names, names, 5, True, False))
+        self.assertEqual({name: values.tolist() for name, values in table.items()}, dict(zip(names, ([0], [0], [300], [0], [0x6162]))))
+
+    def test_arrays(self) -> None:
+        import numpy
+
+        for table in self.tables():
+            for call in (numpy.asarray, numpy.array, lambda it: numpy.array([it, it]), lambda it: numpy.array(it, object)):
+                self.assertRegex(str(self.raises(TypeError, None, call, table)), r"^a table is no array: .*to_numpy\(\)")
+
+    @needs("pandas")
+    def test_frames(self) -> None:
+        import pandas
+
+        for table in self.tables():
+            for call in (pandas.DataFrame, pandas.DataFrame.from_dict, lambda it: pandas.DataFrame(it, columns=["tm_count"])):
+                self.assertRegex(str(self.raises(TypeError, None, call, table)), r"^a table is no array: to_pandas\(\)")
+        packets = pandas.DataFrame(example().packets(apid=101))
+        self.assertEqual((packets.shape, packets["count"].tolist()), ((503, 10), [it.count for it in example().packets(apid=101)]))
+
+    @needs("pandas", "xarray")
+    def test_datasets(self) -> None:
+        import xarray
+
+        empty = xarray.Dataset()
+        for table in self.tables():
+            for call in (xarray.Dataset, lambda it: xarray.Dataset(coords=it), empty.assign, empty.update):
+                self.assertRegex(str(self.raises(TypeError, None, call, table)), r"to_pandas\(\).to_xarray\(\)$")
+            self.raises(TypeError, None, xarray.DataArray, table)
+            made = table.to_pandas().to_xarray()
+            self.assertEqual([len(made.dims), *made.dims.values()], [1, table.rows])
+            self.assertEqual(made["tm_count"].values.tolist(), table["tm_count"].tolist())
+        self.assertEqual(list(self.tables()[0].to_pandas().to_xarray().dims), ["time"])
+
+
 class StandIns(WithModules):
     """What numpy and pandas are called with, on machines without them too."""
 

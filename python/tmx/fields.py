@@ -6,8 +6,9 @@ import io
 import os
 import shutil
 import struct
+import sys
 import tempfile
-from collections.abc import Collection, Iterable, Iterator, Mapping, Sequence
+from collections.abc import Collection, ItemsView, Iterable, Iterator, KeysView, Mapping, Sequence
 from contextlib import contextmanager
 from dataclasses import dataclass, field
 from itertools import compress
@@ -71,6 +72,20 @@ class Fields(Mapping[str, Any]):
     def __eq__(self, other: object) -> bool:
         """Whether both have columns of the same names, with the same values."""
         return isinstance(other, Mapping) and lists_of(self) == lists_of(other)
+
+    def keys(self) -> KeysView[str]:
+        """The names of the columns.  Raises TypeError where xarray asks."""
+        refuse_xarray()
+        return super().keys()
+
+    def items(self) -> ItemsView[str, Any]:
+        """The columns with their names.  Raises TypeError where xarray asks."""
+        refuse_xarray()
+        return super().items()
+
+    def __array__(self, *how: Any, **named: Any) -> None:
+        """Raises TypeError: numpy, and pandas.DataFrame too, would make an array of the names."""
+        raise TypeError("a table is no array: to_pandas() makes a DataFrame of it, and to_numpy() an array of each column")
 
     @property
     def short_packets(self) -> list[ShortPacket]:
@@ -149,6 +164,12 @@ class Fields(Mapping[str, Any]):
             half = MOST_COLUMNS // 2
             head, *rows = [[*it[:half], "...", *it[-half:]] for it in (head, *rows)]
         return f"{html_table(head, rows)}<p>{self.ending()}</p>"
+
+
+def refuse_xarray() -> None:
+    """Raises TypeError where xarray called the caller: it makes a dimension of each column, and has no way to ask for another."""
+    if sys._getframe(2).f_globals.get("__name__", "").startswith("xarray."):
+        raise TypeError("xarray would make a dimension of each column of the table: give it to_pandas().to_xarray()")
 
 
 def lists_of(table: Mapping[str, Any]) -> dict[str, list[Any]]:

@@ -306,6 +306,44 @@ class AsArrays(Columns, WithModules):
                     kept = [(it, time) for it, time in zip(told, found) if time is not None]
                     self.assertEqual([it for it, _ in kept], [after_1970(time // 1000) for _, time in kept])
 
+    def test_series_of_numpy(self) -> None:
+        """By hand: of x = 0, 100, 150 and 200 the domain from 0 to 200 makes u = -1, 0, 1/2 and 1."""
+        import numpy
+        from numpy import polynomial
+
+        domain = {"domain": [0, 200]}
+        for curve, wanted in (
+            (polynomial.Polynomial([1, 2, 0.5], **domain), [-0.5, 1, 2.125, 3.5]),
+            (polynomial.Polynomial([1, 2, 0.5], **domain, window=[0, 200]), [1, 5201, 11551, 20401]),
+            (polynomial.Chebyshev([1, 2, 3], **domain), [2, -2, 0.5, 6]),  # 2 u^2 - 1
+            (polynomial.Legendre([1, 2, 3], **domain), [2, -0.5, 1.625, 6]),  # (3 u^2 - 1) / 2
+            (polynomial.Laguerre([1, 2, 3], **domain, window=[-1, 1]), [15.5, 6, 2.375, -0.5]),  # 1 - u, and 1 - 2 u + u^2 / 2
+            (polynomial.Hermite([1, 2, 3], **domain, window=[-1, 1]), [3, -5, 0, 11]),  # 2 u, and 4 u^2 - 2
+            (polynomial.HermiteE([1, 2, 3], **domain, window=[-1, 1]), [-1, -2, -0.25, 3]),  # u^2 - 1
+            (numpy.poly1d([0.5, -2, 3]), [3, 4803, 10953, 19603]),  # the highest power first
+            (numpy.poly1d([1, 100], r=True), [100, 0, 50 * 149, 100 * 199]),  # (u - 1) (u - 100)
+            (numpy.array([3, -2, 0.5]), [3, 4803, 10953, 19603]),
+            (numpy.array([3, -2], "int8"), [3, -197, -297, -397]),
+        ):
+            found = column(octets([0, 100, 150, 200]), "uint", curves=curve)["A"]
+            self.assertEqual((found.tolist(), found.dtype), (wanted, "float64"), repr(curve))
+        arrays = rows_of([b"\0\x64", b"\x96\xc8"], "A,str,16\n", arrays={"A": "u1"})
+        found = arrays.decoded(curves={"A": polynomial.Chebyshev([1, 2, 3], **domain)})["A"]
+        self.assertEqual(found.tolist(), [[2, -2], [0.5, 6]])
+
+    def test_series_that_are_refused(self) -> None:
+        import numpy
+        from numpy import polynomial
+
+        for series in (polynomial.Polynomial([1, 2]), polynomial.Chebyshev([1, 2]), numpy.poly1d([1, 2]), lambda it: it):
+            name = "function" if callable(series) and not hasattr(series, "coef") else type(series).__name__
+            error = self.raises(TypeError, None, tmx.Polynomial, series)
+            self.assertEqual(str(error), f"a polynomial takes a list of coefficients, and not {name}")
+        for curve in (lambda it: it, polynomial.Chebyshev([1j]), numpy.poly1d([1, 1j]), numpy.array([[1]]), numpy.array(1)):
+            self.raises(TypeError, None, column, octets([0]), "uint", curves=curve)
+        self.raises(ValueError, None, column, octets([0]), "uint", curves=numpy.array([]))
+        self.raises(tmx.ColumnError, None, column, octets([0]), "str", curves=polynomial.Chebyshev([1]))
+
     def test_calibrators_beside_numpy(self) -> None:
         import numpy
 

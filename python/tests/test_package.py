@@ -196,16 +196,43 @@ numbers: dict[int, str] = {0: "OFF"}
 ranges: dict[range, str] = {range(1, 3): "COARSE"}
 fields.decoded(labels={"MODE": numbers, "STARS": ranges})
 fields.decoded(labels={"MODE": {0: "OFF", range(1, 3): "COARSE"}})
+fields.decoded(curves={"MODE": [0, 1], "STARS": (0, 0.01), "SECONDS": tmx.Polynomial(map(float, ["0", "1"]))})
+fields.decoded(curves={"STARS": tmx.Spline([(0, 0), (10, 5)]), "MODE": tmx.Spline(zip([0, 1], [2.5, 3]), 0, True)})
+first: float = tmx.Polynomial([1, 2]).coefficients[0]
 """  # which the types let through
+WITH_NUMPY = """import numpy
+coefficients = numpy.array([0, 0.01])
+whole = numpy.arange(3)
+points = numpy.array([[0, 0], [10, 5]])
+fields.decoded(curves={"MODE": coefficients, "STARS": whole, "SECONDS": tmx.Polynomial(coefficients)})
+curves = {"MODE": coefficients}
+fields.decoded(curves=curves)
+fields.decoded(curves={"MODE": numpy.polynomial.Polynomial([0, 1], [0, 4095]), "STARS": numpy.poly1d([1, 0])})
+fields.decoded(curves={"MODE": tmx.Spline(points), "STARS": numpy.polynomial.Chebyshev(coefficients)})
+"""
+REFUSED = """fields.decoded(curves={"MODE": "10"})
+fields.decoded(curves={"MODE": 5})
+fields.decoded(curves={"MODE": ["0", "1"]})
+tmx.Polynomial("10")
+"""  # a line each that they don't
 
 
 class TheTypes(TestCase):
     @needs("mypy")
     def test_mypy(self) -> None:
-        Path("calls.py").write_text(CALLS)
+        calls = CALLS + (WITH_NUMPY if importlib.util.find_spec("numpy") else "")
+        self.assertEqual(self.refused(calls), [])
+        before = calls.count("\n")
+        self.assertEqual(self.refused(calls + REFUSED), [before + number for number in range(1, REFUSED.count("\n") + 1)])
+
+    def refused(self, calls: str) -> list[int]:
+        """The lines that mypy refuses."""
+        Path("calls.py").write_text(calls)
         line = [sys.executable, "-m", "mypy", "--strict", "--cache-dir", "cache", str(PACKAGE / "tmx"), "calls.py"]
         ran = subprocess.run(line, capture_output=True, text=True, check=False, env=os.environ | {"MYPYPATH": str(PACKAGE)})
-        self.assertEqual(ran.returncode, 0, ran.stdout)
+        found = re.findall("^(.*?):([0-9]+): error: ", ran.stdout, re.MULTILINE)
+        self.assertEqual((ran.returncode, {name for name, _ in found} - {"calls.py"}), (1 if found else 0, set()), ran.stdout)
+        return sorted({int(number) for _, number in found})
 
 
 if __name__ == "__main__":

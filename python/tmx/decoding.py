@@ -2,11 +2,11 @@
 
 import math
 from bisect import bisect_right
-from collections.abc import ItemsView, Mapping, Sequence, Set, ValuesView
+from collections.abc import ItemsView, Iterable, Mapping, Sequence, Set, ValuesView
 from dataclasses import dataclass
 from itertools import compress
 from operator import index
-from typing import TYPE_CHECKING, Any, Protocol
+from typing import TYPE_CHECKING, Any, Protocol, SupportsFloat
 
 from .arrays import objects
 from .definition import Column, column_named
@@ -39,7 +39,19 @@ class Decoder(Protocol):
 # Calibrations.
 
 
-@dataclass(frozen=True)
+class Series(Protocol):
+    """A series of numpy, as those of `numpy.polynomial` and a `numpy.poly1d`."""
+
+    @property
+    def coef(self) -> Any: ...
+
+    def __call__(self, values: Any, /) -> Any: ...
+
+
+SERIES = ("Polynomial", "Chebyshev", "Legendre", "Laguerre", "Hermite", "HermiteE")  # of numpy.polynomial
+
+
+@dataclass(frozen=True, init=False)
 class Polynomial:
     """A calibration: the sum of coefficients times powers of the raw value, from the power 0 up.
 
@@ -49,10 +61,12 @@ class Polynomial:
     coefficients: Sequence[float]
     type = "float"
 
-    def __post_init__(self) -> None:
-        if isinstance(self.coefficients, (str, bytes, bytearray, memoryview, Mapping, Set)):
-            raise TypeError(f"a polynomial takes a list of coefficients, and not {self.coefficients!r}")
-        object.__setattr__(self, "coefficients", tuple(map(float, self.coefficients)))
+    def __init__(self, coefficients: Iterable[SupportsFloat]) -> None:
+        if isinstance(coefficients, (str, bytes, bytearray, memoryview, Mapping, Set)) or getattr(coefficients, "ndim", 1) != 1:
+            raise TypeError(f"a polynomial takes a list of coefficients, and not {coefficients!r}")
+        if callable(coefficients):  # as a series of numpy, whose coefficients may be of other terms, or in another order
+            raise TypeError(f"a polynomial takes a list of coefficients, and not {type(coefficients).__qualname__}")
+        object.__setattr__(self, "coefficients", tuple(map(float, coefficients)))
         if not self.coefficients:
             raise ValueError("a polynomial has coefficients")
 
@@ -72,6 +86,24 @@ def horner(coefficients: Sequence[float], value: float) -> float:
 
 
 @dataclass(frozen=True)
+class Called:
+    """A calibration by a series of numpy, which maps its domain to its window and adds its terms itself.
+
+    Raises TypeError where its coefficients are no real numbers.
+    """
+
+    series: Series
+    type = "float"
+
+    def __post_init__(self) -> None:
+        if self.series.coef.dtype.kind not in "uif":
+            raise TypeError(f"a calibration has real coefficients, and not {self.series.coef!r}")
+
+    def values(self, name: str, raw: Any) -> Any:
+        return self.series(floats(name, raw)).astype("float64")
+
+
+@dataclass(frozen=True, init=False)
 class Spline:
     """A calibration by points, pairs of a raw value and its calibrated value.
 
@@ -86,10 +118,12 @@ class Spline:
     extrapolate: bool = False
     type = "float"
 
-    def __post_init__(self) -> None:
-        if self.order not in (0, 1):
-            raise ValueError(f"a spline is of order 0 or 1, and not {self.order}")
-        object.__setattr__(self, "points", tuple((float(raw), float(value)) for raw, value in self.points))
+    def __init__(self, points: Iterable[Iterable[SupportsFloat]], order: int = 1, extrapolate: bool = False) -> None:
+        if order not in (0, 1):
+            raise ValueError(f"a spline is of order 0 or 1, and not {order}")
+        numbers = tuple((float(raw), float(value)) for raw, value in points)
+        for name, value in (("points", numbers), ("order", order), ("extrapolate", extrapolate)):
+            object.__setattr__(self, name, value)
         if not self.points or len(dict(self.points)) < len(self.points):
             raise ValueError("a spline has points, each of another raw value")
 
@@ -192,16 +226,29 @@ class Timed:
 # Tables.
 
 
+Curve = Iterable[SupportsFloat] | Series | Polynomial | Spline
+
+
+def curve_of(curve: Any) -> Decoder:
+    """The calibration that a caller names.  Raises TypeError and ValueError as Polynomial and Called do."""
+    if isinstance(curve, (Polynomial, Spline)):
+        return curve
+    numpy = module("numpy")
+    if numpy is not None and isinstance(curve, (numpy.poly1d, *(getattr(numpy.polynomial, it) for it in SERIES))):
+        return Called(curve)
+    return Polynomial(curve)
+
+
 def decoders_of(
     labels: Mapping[str, Names] | None,
-    curves: Mapping[str, Sequence[float] | Polynomial | Spline] | None,
+    curves: Mapping[str, Curve] | None,
     times: Mapping[str, TimeCode | Ticks] | None,
 ) -> dict[str, Decoder]:
     """What a caller asks for, by column.  Raises ColumnError where a column comes twice."""
     found: dict[str, Decoder] = {}
     asked: list[tuple[str, Decoder]] = [(name, Labels(it)) for name, it in (labels or {}).items()]
     for name, curve in (curves or {}).items():
-        asked.append((name, curve if isinstance(curve, (Polynomial, Spline)) else Polynomial(curve)))
+        asked.append((name, curve_of(curve)))
     asked += [(name, Timed(it)) for name, it in (times or {}).items()]
     for name, decoder in asked:
         if name in found:

@@ -15,7 +15,7 @@ from itertools import compress
 from typing import IO, Any
 
 from .arrays import single_columns, with_arrays
-from .decoding import Names, Polynomial, Spline, decoded, decoders_of
+from .decoding import Curve, Names, decoded, decoders_of
 from .definition import Column, column_named, long_values, read_definition
 from .errors import ColumnError, DisagreementError, word_behind
 from .lines import ShortPacket, read_lines
@@ -105,13 +105,13 @@ class Fields(Mapping[str, Any]):
         self,
         *,
         labels: Mapping[str, Names] | None = None,
-        curves: Mapping[str, Sequence[float] | Polynomial | Spline] | None = None,
+        curves: Mapping[str, Curve] | None = None,
         times: Mapping[str, TimeCode | Ticks] | None = None,
     ) -> "Fields":
         """The table with what the raw values of columns mean.  Behind such a column stands the raw one, with `_raw` in its name.
 
         labels  for a column the label of each number or range: a pandas.Categorical, or without pandas texts and None
-        curves  for a column the coefficients of a polynomial from the power 0 up, a Polynomial or a Spline: floats
+        curves  for a column the coefficients of a polynomial from the power 0 up, a Polynomial, a Spline or a series of numpy: floats
         times   for a column of octets a TimeCode, for one of numbers Ticks: times as `fields` gives them
 
         Raises ColumnError where a column isn't there, or isn't of a fitting type.

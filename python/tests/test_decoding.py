@@ -104,8 +104,17 @@ class Columns:
         self.assertEqual(found(0, False), [None, 1.0, 1.0, 3.0, 3.0, -1.0, None])
         self.assertEqual(found(0, True), [1.0, 1.0, 1.0, 3.0, 3.0, -1.0, -1.0])
         self.assertEqual(tmx.Spline(zip((0, 1), (2, 3))), tmx.Spline([(0, 2), (1, 3)]))
-        for points, order in (((), 1), (((1, 2), (1, 3)), 1), (POINTS, 2)):
+        for points, order in (((), 1), (((1, 2), (1, 3)), 1), (POINTS, 2), (((1, 2), (math.nan, 3)), 1), (((1, 2), (math.inf, 3)), 0)):
             self.raises(ValueError, None, tmx.Spline, points, order)
+
+    def test_points_of_splines(self) -> None:
+        """At a point's raw value stands just its calibrated value, at the last one too."""
+        chance = random.Random(3)
+        for number in range(40):
+            raws = chance.sample(range(256), chance.randrange(1, 8))
+            points = [(raw, chance.uniform(-1, 1) * 10 ** chance.randrange(-5, 5)) for raw in raws]
+            curve = tmx.Spline(points, number % 2, number % 3 == 0)
+            self.assertEqual(list(column(octets(raws), "uint", curves=curve)["A"]), [value for _, value in points])
 
     def test_times_without_leap_seconds(self) -> None:
         """Noon of January 1, 2000 is 15340.5 days behind 1958, and 946728000 seconds behind 1970."""

@@ -110,7 +110,7 @@ class Spline:
     order        1 for straight lines between points; 0 for steps, each from its point up to the next
     extrapolate  whether the first and last lines, or steps, go on beyond the points; else there is no value there: NaN
 
-    Raises ValueError where there are no points, or two of one raw value, or the order is another.
+    Raises ValueError where there are no points, two of one raw value, or one that is not finite, or the order is another.
     """
 
     points: Sequence[tuple[float, float]]
@@ -126,6 +126,8 @@ class Spline:
             object.__setattr__(self, name, value)
         if not self.points or len(dict(self.points)) < len(self.points):
             raise ValueError("a spline has points, each of another raw value")
+        if not all(math.isfinite(raw) for raw, _ in self.points):
+            raise ValueError("a spline has points of finite raw values")
 
     def values(self, name: str, raw: Any) -> Any:
         numpy, given = module("numpy"), floats(name, raw)
@@ -139,8 +141,10 @@ class Spline:
         if math.isnan(raw) or not (self.extrapolate or raws[0] <= raw <= raws[-1]):
             return math.nan
         at = bisect_right(raws, raw) - 1
-        if self.order == 0 or len(raws) == 1:
+        if self.order == 0 or raw == raws[at]:
             return calibrated[max(at, 0)]
+        if len(raws) == 1:
+            return calibrated[0]
         at = min(max(at, 0), len(raws) - 2)
         slope = (calibrated[at + 1] - calibrated[at]) / (raws[at + 1] - raws[at])
         return calibrated[at] + slope * (raw - raws[at])

@@ -47,6 +47,11 @@ def after_1970(microseconds: int) -> datetime:
     return datetime(1970, 1, 1) + timedelta(microseconds=microseconds)
 
 
+def date_at(microseconds: int) -> datetime | None:
+    """The same, and None behind the year 9999."""
+    return after_1970(microseconds) if microseconds < 253402300800 * 10**6 else None
+
+
 def octets(numbers) -> list[bytes]:
     return [it.to_bytes(1, "big") for it in numbers]
 
@@ -141,6 +146,47 @@ class Columns:
             self.assertEqual(dates(table["A"]), [at])
         table = column([struct.pack(">d", 43200.5)], "float", times=tmx.Ticks("2000-01-01", 1, "-0.25"))
         self.assertEqual(dates(table["A"]), [at.replace(microsecond=250_000)])
+
+    def test_codes_of_all_lengths(self) -> None:
+        """Worked out in whole nanoseconds; with a P-field, with octets behind, cut short, and with another P-field."""
+        chance = random.Random(4)
+        for coarse in range(1, 8):
+            for fine in range(11):
+                seconds = [chance.getrandbits(min(8 * coarse, 33)) for _ in range(20)]
+                parts = [0, 256**fine - 1, *(chance.randrange(256**fine) for _ in range(18))]
+                codes = [it.to_bytes(coarse, "big") + part.to_bytes(fine, "big") for it, part in zip(seconds, parts)]
+                below = (coarse > 4 or fine > 3) and bytes([max(coarse - 4, 0) << 5 | max(fine - 3, 0) << 2])
+                lead = bytes([0x10 | bool(below) << 7 | min(coarse - 1, 3) << 2 | min(fine, 3)]) + (below or b"")
+                wanted = [it * 10**9 + part * 10**9 // 256**fine for it, part in zip(seconds, parts)]
+                self.coded("cuc", f"cuc{coarse}.{fine}", "1970-01-01", lead, codes, wanted)
+        for number, (coarse, fine) in enumerate(((2, 0), (3, 0), (2, 2), (3, 2), (2, 4), (3, 4))):
+            days = [0, 1, 65535, *(chance.randrange(256**coarse >> 2) for _ in range(17))]
+            milliseconds = [chance.choice((chance.randrange(86_400_000), 86_400_999, 86_401_000, 2**32 - 1)) for _ in days]
+            unit, most = ((0, 1), (1000, 1000), (Fraction(1, 1000), 10**9))[fine // 2]  # nanoseconds, and how many in a millisecond
+            parts = [chance.choice((0, chance.randrange(most), most - 1, min(most, 256**fine - 1))) for _ in days]
+            each = list(zip(days, milliseconds, parts))
+            codes = [it[0].to_bytes(coarse, "big") + it[1].to_bytes(4, "big") + it[2].to_bytes(fine, "big") for it in each]
+            good = [it[1] < 86_401_000 and it[2] < most for it in each]
+            passed = [(day * 86_400_000 + thousandths) * 10**6 + math.floor(part * unit) for day, thousandths, part in each]
+            wanted = [it - 4383 * 86400 * 10**9 if is_good else None for it, is_good in zip(passed, good)]
+            lead = bytes([0x40 | (coarse == 3) << 2 | fine // 2])
+            self.coded("cds", f"cds{(6, 7, 8, 9, 10, 11)[number]}", None, lead, codes, wanted)
+
+    def coded(self, kind: str, form: str, epoch: str | None, lead: bytes, codes: list[bytes], wanted: list[int | None]) -> None:
+        """Looks at the times of codes, which are so many nanoseconds behind 1970."""
+        torn = [codes[0], codes[1][:-1], *codes[2:]]
+        behind = [lead + it + b"behind"[number % 7 :] for number, it in enumerate(codes)]
+        behind[3] = bytes([lead[0] ^ 0x20]) + behind[3][1:]
+        missing = [[], [1], [3]]
+        for code, given, left in zip((form, form, kind), (codes, torn, behind), missing):
+            times, none = tmx.TimeCode(code, epoch).times("A", given)
+            kept = [None if number in left else it for number, it in enumerate(wanted)]
+            if hasattr(times, "dtype"):
+                kept = [it if it is not None and -(2**63) < it < 2**63 else None for it in kept]
+                found = [None if it == -(2**63) else it for it in times.astype("int64").tolist()]
+                self.assertEqual((found, none), (kept, kept.count(None)), (form, code))
+            else:
+                self.assertEqual((times, none), ([None if it is None else date_at(it // 1000) for it in kept], times.count(None)), (form, code))
 
     def test_times_of_floats(self) -> None:
         """Eighths of a second, milliseconds and microseconds, worked out in whole microseconds."""

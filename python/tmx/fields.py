@@ -111,7 +111,8 @@ class Fields(Mapping[str, Any]):
         """The table with what the raw values of columns mean.  Behind such a column stands the raw one, with `_raw` in its name.
 
         labels  for a column the label of each number or range: a pandas.Categorical, or without pandas texts and None
-        curves  for a column the coefficients of a polynomial from the power 0 up, a Polynomial, a Spline or a series of numpy: floats
+        curves  for a column the coefficients of a polynomial from the power 0 up, a Polynomial, a Spline or a series of numpy;
+                these make floats
         times   for a column of octets a TimeCode, for one of numbers Ticks: times as `fields` gives them
 
         Raises ColumnError where a column isn't there, or isn't of a fitting type.

@@ -2,7 +2,7 @@
 
 import re
 import struct
-from collections.abc import Iterable
+from collections.abc import Iterable, Sequence
 from dataclasses import dataclass, replace
 from fractions import Fraction
 from typing import Any
@@ -10,7 +10,7 @@ from typing import Any
 from .errors import ColumnError
 from .leap_seconds import NANOSECONDS
 from .scaling import Scale, floors, in_64_bits, nearests, scale_of
-from .times import LAST, NONE, Clock, Epoch, clock_of, times_of, utc_of_array
+from .times import LAST, NONE, Clock, Epoch, array_of_times, clock_of, nanoseconds_of_fractions, times_of, utc_of_array
 from .values import module
 
 SECOND, DAY = 10**6, 86400 * 10**6  # in microseconds
@@ -39,6 +39,11 @@ class Code:
     def octets(self) -> int:
         return len(self.lead) + self.coarse + (4 if self.kind == "cds" else 0) + self.fine
 
+    @property
+    def unit(self) -> int:
+        """The parts of a second that the octets below a millisecond count."""
+        return 10**12 if self.fine == 4 else SECOND
+
     def passed(self, octets: bytes, second: int = SECOND) -> int | None:
         """The time behind second 0, in so many parts of a second, rounded down; None where the octets are no such time.
 
@@ -57,10 +62,10 @@ class Code:
 
     def of_days(self, said: bytes, second: int) -> int | None:
         days, milliseconds = int.from_bytes(said[: self.coarse]), int.from_bytes(said[self.coarse : self.coarse + 4])
-        below, unit = int.from_bytes(said[self.coarse + 4 :]), 10**12 if self.fine == 4 else SECOND  # its parts of a second
-        if milliseconds * 1000 >= DAY + SECOND or below * 1000 >= unit:  # a day may have a leap second
+        below = int.from_bytes(said[self.coarse + 4 :])
+        if milliseconds * 1000 >= DAY + SECOND or below * 1000 >= self.unit:  # a day may have a leap second
             return None
-        return (days * 86400 + milliseconds // 1000) * second + milliseconds % 1000 * second // 1000 + below * second // unit
+        return (days * 86400 + milliseconds // 1000) * second + milliseconds % 1000 * second // 1000 + below * second // self.unit
 
 
 def code_of_lead(kind: str, octets: bytes) -> Code | None:
@@ -115,8 +120,10 @@ class TimeCode:
         if not all(isinstance(it, bytes) for it in octets):
             raise ColumnError(f"the column {name!r} has no octets, and {self.form} stands in octets: see Ticks")
         code = next(filter(None, (code_of(self.form, it) for it in octets)), None)
-        passed = (None if code is None else code.passed(it, NANOSECONDS) for it in octets)
-        return times_of(passed, clock_of(EPOCHS[self.form[:3]] if self.epoch is None else self.epoch))
+        clock, numpy = clock_of(EPOCHS[self.form[:3]] if self.epoch is None else self.epoch), module("numpy")
+        if numpy is not None and code is not None and code.fine <= 8:
+            return utc_of_array(numpy, counted_in_octets(numpy, octets, code, clock), clock)
+        return times_of((None if code is None else code.passed(it, NANOSECONDS) for it in octets), clock)
 
 
 @dataclass(frozen=True)
@@ -146,7 +153,8 @@ class Ticks:
         nanoseconds, microseconds = (scale_of(seconds, offset, it) for it in (NANOSECONDS, SECOND))
         numpy, clock = module("numpy"), clock_of(self.epoch)
         if numpy is not None and isinstance(values, numpy.ndarray) and values.dtype.kind in "uif" and values.ndim == 1:
-            counted = counted_in_array(numpy, values, nanoseconds, microseconds, clock)
+            is_float = values.dtype.kind == "f"
+            counted = (counted_floats if is_float else counted_numbers)(numpy, values, microseconds if is_float else nanoseconds, clock)
             if counted is not None:
                 return utc_of_array(numpy, counted, clock)
         numbers = values.tolist() if hasattr(values, "tolist") else list(values)
@@ -176,17 +184,45 @@ def passed_of(number: int | float, nanoseconds: Scale, microseconds: Scale) -> i
     return None if found is None else found * 1000
 
 
-def counted_in_array(numpy: Any, values: Any, nanoseconds: Scale, microseconds: Scale, clock: Clock) -> Any:
-    """The times of an array of numbers, in nanoseconds from 1970 by the clock's scale; None where 64 bits are too few for a scale."""
-    if values.dtype.kind == "f":
-        least, most = -((clock.begin - clock.first) // 1000), (LAST - clock.begin) // 1000
-        found = nearests(numpy, values, microseconds, least, most)
-        step, begin = 1000, clock.begin
+# Arrays of numpy: times in nanoseconds from 1970 by the clock's scale.
+
+
+def counted_in_octets(numpy: Any, octets: Sequence[bytes], code: Code, clock: Clock) -> Any:
+    """The times of octets that stand so, with at most 8 below a second."""
+    length, lead = code.octets, len(code.lead)
+    lengths = numpy.fromiter(map(len, octets), int, len(octets))
+    if (lengths != lengths[0]).any() or lengths[0] < length:
+        octets = [it[:length].ljust(length, b"\0") for it in octets]
+    rows = numpy.frombuffer(b"".join(octets), "u1").reshape(len(octets), -1)
+    is_time = (lengths >= length) & (rows[:, :lead] == numpy.frombuffer(code.lead, "u1")).all(axis=1)
+    if code.kind not in ("cds", "cuc"):
+        floats = numpy.ascontiguousarray(rows[:, :length]).view(f"{code.kind[0]}f8")[:, 0]
+        return numpy.where(is_time, counted_floats(numpy, floats, Scale(SECOND, 0, 1), clock), NONE)
+
+    def numbers(first: int, count: int) -> Any:
+        padded = numpy.zeros((len(rows), 8), "u1")
+        padded[:, 8 - count :] = rows[:, first : first + count]
+        return padded.view(">u8")[:, 0].astype("uint64")
+
+    coarse, fine = numbers(lead, code.coarse), numbers(length - code.fine, code.fine)
+    if code.kind == "cuc":
+        passed = nanoseconds_of_fractions(fine, 8 * code.fine)
     else:
-        shifted = replace(nanoseconds, offset=nanoseconds.offset + clock.begin * nanoseconds.whole)
-        found = floors(numpy, values, shifted, clock.first, LAST)
-        step, begin = 1, 0
-    if found is None:
-        return None
-    counted, is_there = found
-    return numpy.where(is_there, counted * step + in_64_bits(begin), NONE)
+        milliseconds = numbers(lead + code.coarse, 4)
+        is_time &= (milliseconds * 1000 < DAY + SECOND) & (fine * 1000 < code.unit)
+        coarse, passed = coarse * 86400 + milliseconds // 1000, milliseconds % 1000 * 10**6 + fine * NANOSECONDS // code.unit
+    return numpy.where(is_time, array_of_times(numpy, coarse, passed, clock.begin), NONE)
+
+
+def counted_numbers(numpy: Any, values: Any, nanoseconds: Scale, clock: Clock) -> Any:
+    """The times of whole numbers; None where 64 bits are too few for the scale."""
+    shifted = replace(nanoseconds, offset=nanoseconds.offset + clock.begin * nanoseconds.whole)
+    found = floors(numpy, values, shifted, clock.first, LAST)
+    return None if found is None else numpy.where(found[1], found[0], NONE)
+
+
+def counted_floats(numpy: Any, values: Any, microseconds: Scale, clock: Clock) -> Any:
+    """The times of floats; None where 64 bits are too few for the scale."""
+    least, most = -((clock.begin - clock.first) // 1000), (LAST - clock.begin) // 1000
+    found = nearests(numpy, values, microseconds, least, most)
+    return None if found is None else numpy.where(found[1], found[0] * 1000 + in_64_bits(clock.begin), NONE)

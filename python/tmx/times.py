@@ -83,7 +83,8 @@ def times(seconds: Any, fractions: Any, bits: int, epoch: Epoch) -> tuple[Any, i
     if numpy is None:
         pairs = zip(seconds, fractions or [0] * len(seconds))
         return times_of((second * NANOSECONDS + (fraction * NANOSECONDS >> bits) for second, fraction in pairs), clock)
-    return utc_of_array(numpy, array_of_times(numpy, seconds.astype("uint64"), fractions, bits, clock.begin), clock)
+    passed = None if fractions is None else nanoseconds_of_fractions(fractions.astype("uint64"), bits)
+    return utc_of_array(numpy, array_of_times(numpy, seconds.astype("uint64"), passed, clock.begin), clock)
 
 
 def time_at(microseconds: int) -> datetime | None:
@@ -94,17 +95,25 @@ def time_at(microseconds: int) -> datetime | None:
         return None
 
 
-def array_of_times(numpy: Any, seconds: Any, fractions: Any, bits: int, begin: int) -> Any:
-    """All is worked out modulo 2^64, so only what comes out has to be in range."""
+def nanoseconds_of_fractions(fractions: Any, bits: int) -> Any:
+    """The nanoseconds of binary fractions of a second, of so many bits up to 64, rounded down."""
+    low = min(bits, 32)  # so that each product has 64 bits
+    high, rest = divmod(fractions, 2**low)
+    return high * NANOSECONDS + (rest * NANOSECONDS >> low) >> bits - low
+
+
+def array_of_times(numpy: Any, seconds: Any, passed: Any, begin: int) -> Any:
+    """The times so many seconds, and nanoseconds less than one, behind second 0; NONE where that is out of range.
+
+    All is worked out modulo 2^64, so only what comes out has to be in range.
+    """
     least, most = max(0, -((begin - FIRST) // NANOSECONDS)), (LAST - begin) // NANOSECONDS - 1
     bad = numpy.ones(len(seconds), bool)
     if most >= 0:
         bad = (seconds < numpy.uint64(least)) | (seconds > numpy.uint64(min(most, 2**64 - 1)))
     found = seconds * numpy.uint64(NANOSECONDS) + numpy.uint64(begin % 2**64)
-    if fractions is not None:
-        low = min(bits, 32)  # so that each product has 64 bits
-        high, rest = divmod(fractions.astype("uint64"), 2**low)
-        found += high * NANOSECONDS + (rest * NANOSECONDS >> low) >> bits - low
+    if passed is not None:
+        found += passed
     found[bad] = NONE % 2**64
     return found.view("int64")
 

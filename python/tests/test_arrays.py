@@ -144,6 +144,35 @@ class AsFrames(WithModules):
         table = rows_of([b"\x01\x23\x45", b"\x67\x89\xab"], "S,str,24\n", arrays={"S": "uint12"}).to_pandas()
         self.assertEqual((table["S[0]"].tolist(), table["S[1]"].tolist()), ([0x012, 0x678], [0x345, 0x9AB]))
 
+    def test_byte_orders(self) -> None:
+        """pandas has no columns of another byte order than this machine's."""
+        rows = [(770, -2, 1.5), (5, 6, -0.25), (65535, -32768, 0.0)]
+        payloads = [struct.pack(">Hhf", *it) for it in rows]
+        arrays = {"A": ">u2", "B": ">i2", "C": ">f4"}
+        for forms in (arrays, {name: form.replace(">", "<") for name, form in arrays.items()}):
+            given = payloads if forms is arrays else [struct.pack("<Hhf", *it) for it in rows]
+            table = rows_of(given, "A,str,16\nB,str,16\nC,str,32\n", arrays=forms).to_pandas()
+            for number, name in enumerate(("A[0]", "B[0]", "C[0]")):
+                self.assertEqual(table[name].tolist(), [it[number] for it in rows])
+                self.assertEqual(table.sort_values(name)[name].tolist(), sorted(it[number] for it in rows))
+                self.assertEqual(table.describe()[name]["max"], max(it[number] for it in rows))
+            self.assertEqual(table.loc[table["A[0]"] > 5, "B[0]"].tolist(), [-2, -32768])
+
+    def test_columns_of_members(self) -> None:
+        import numpy
+
+        kind = numpy.dtype([("X", "u1"), ("Y", ">u2"), ("Z", "i1", 2)])
+        table = rows_of([bytes.fromhex("01 0203 04ff 05 0607 08fe")], "S,str,80\n", arrays={"S": kind}).to_pandas()
+        wanted = {"S[0].X": 1, "S[0].Y": 0x203, "S[0].Z[0]": 4, "S[0].Z[1]": -1}
+        wanted |= {"S[1].X": 5, "S[1].Y": 0x607, "S[1].Z[0]": 8, "S[1].Z[1]": -2}
+        self.assertEqual({name: table[name].tolist() for name in table.columns[4:]}, {name: [it] for name, it in wanted.items()})
+
+    def test_names_that_come_twice(self) -> None:
+        for definition in ("S,str,16\nS[1],uint,8\n", "S[1],uint,8\nS,str,16\n"):
+            table = rows_of([b"abc"], definition, arrays={"S": "u1"})
+            error = self.raises(tmx.ColumnError, None, table.to_pandas)
+            self.assertEqual(str(error), "the column 'S' has a value 'S[1]', and another column has this name")
+
 
 if __name__ == "__main__":
     unittest.main()

@@ -2,7 +2,7 @@
 
 import re
 import struct
-from collections.abc import Mapping, Sequence
+from collections.abc import Iterator, Mapping, Sequence
 from dataclasses import dataclass
 from typing import TYPE_CHECKING, Any
 
@@ -74,14 +74,32 @@ def objects(values: Sequence[Any]) -> Any:
 
 
 def single_columns(fields: "Fields") -> dict[str, Any]:
-    """The columns by their names, each of an array as one for each of its values: `NAME[0]`."""
+    """The columns by their names, each of an array as one for each of its values: `NAME[0]`, and of its members: `NAME[0].MEMBER`.
+
+    All are in this machine's byte order, since pandas takes no other.  Raises ColumnError where two have one name.
+    """
     found: dict[str, Any] = {}
-    for name, values in fields.items():
-        if getattr(values, "ndim", 1) == 1:
-            found[name] = values
-        else:
-            found |= {f"{name}[{number}]": values[:, number] for number in range(values.shape[1])}
+    for column, values in fields.items():
+        for name, single in singles(column, values):
+            if name in found or name != column and name in fields:
+                raise ColumnError(f"the column {column!r} has a value {name!r}, and another column has this name")
+            found[name] = single
     return found
+
+
+def singles(name: str, values: Any) -> Iterator[tuple[str, Any]]:
+    """The columns of a column, with their names."""
+    numpy = module("numpy")
+    if numpy is None or not isinstance(values, numpy.ndarray):
+        yield name, values
+    elif values.ndim > 1:
+        for number in range(values.shape[1]):
+            yield from singles(f"{name}[{number}]", values[:, number])
+    elif values.dtype.names:
+        for member in values.dtype.names:
+            yield from singles(f"{name}.{member}", values[member])
+    else:
+        yield name, values.astype(values.dtype.newbyteorder("="), copy=False)
 
 
 def array_of(values: Any, form: Form, count: int) -> Any:

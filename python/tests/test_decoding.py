@@ -199,6 +199,8 @@ class Columns:
         self.assertEqual(dates(column(payloads, "float", times=tmx.Ticks("1970-01-01"))["A"]), dated)
         self.assertEqual(dates(column(payloads, "str", times=tmx.TimeCode(">f8"))["A"]), dated)
         self.assertEqual(dates(column([it[::-1] for it in payloads], "str", times=tmx.TimeCode("<f8"))["A"]), dated)
+        receipts = [code_of(">f8", b"").passed(it, 10**9) for it in payloads]  # as the page of a pass reads them
+        self.assertEqual(receipts, [it * 1000 for it in wanted])
 
     def test_halves_of_microseconds(self) -> None:
         """The later one is taken."""

@@ -1,6 +1,7 @@
 """Columns of arrays and of rests, beside single fields and whole packets."""
 
 import io
+import math
 import os
 import random
 import struct
@@ -57,6 +58,14 @@ class Columns:
         self.assertEqual((one == same, one == other, one != other, one == 5), (True, False, True, False))
         self.assertEqual(one, dict(same))
         self.assertEqual(one.decoded(labels={"A": {97: "ON"}}) == same.decoded(labels={"A": {49: "ON"}}), False)
+
+    def test_tables_with_nan(self) -> None:
+        definition, arrays = "A,float,32\nS,str,32\nB,uint,8\n", {"S": ">f4"}
+        nan = struct.pack(">ffB", math.nan, math.nan, 1)
+        one, same, other = (rows_of([nan, it], definition, arrays=arrays) for it in (nan, nan, nan[:-1] + b"\2"))
+        number = rows_of([nan, struct.pack(">ffB", 1, math.nan, 1)], definition, arrays=arrays)
+        self.assertEqual((one == one, one == same, one == other, one == number), (True, True, False, False))
+        self.assertEqual(one.decoded(curves={"B": tmx.Spline([(5, 0)])}), same.decoded(curves={"B": tmx.Spline([(5, 0)])}))
 
     def test_no_rows(self) -> None:
         recording = tmx.Recording(io.BytesIO(b""), tmx.Settings(42, 100, False))

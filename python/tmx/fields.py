@@ -70,8 +70,11 @@ class Fields(Mapping[str, Any]):
         return len(self.by_name)
 
     def __eq__(self, other: object) -> bool:
-        """Whether both have columns of the same names, with the same values."""
-        return isinstance(other, Mapping) and lists_of(self) == lists_of(other)
+        """Whether both have columns of the same names, with the same values.  A NaN is the same as another one."""
+        if not isinstance(other, Mapping):
+            return False
+        one, two = lists_of(self), lists_of(other)
+        return one.keys() == two.keys() and all(it == two[name] or repr(it) == repr(two[name]) for name, it in one.items())
 
     def keys(self) -> KeysView[str]:
         """The names of the columns.  Raises TypeError where xarray asks."""

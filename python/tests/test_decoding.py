@@ -393,9 +393,8 @@ class AsArrays(Columns, WithModules):
         from numpy import polynomial
 
         for series in (polynomial.Polynomial([1, 2]), polynomial.Chebyshev([1, 2]), numpy.poly1d([1, 2]), lambda it: it):
-            name = "function" if callable(series) and not hasattr(series, "coef") else type(series).__name__
-            error = self.raises(TypeError, None, tmx.Polynomial, series)
-            self.assertEqual(str(error), f"a polynomial takes a list of coefficients, and not {name}")
+            said = str(self.raises(TypeError, None, tmx.Polynomial, series))
+            self.assertRegex(said, rf"^a polynomial takes a list of coefficients, and not [a-z.]*{type(series).__name__}; a series of ")
         for curve in (lambda it: it, polynomial.Chebyshev([1j]), numpy.poly1d([1, 1j]), numpy.array([[1]]), numpy.array(1)):
             self.raises(TypeError, None, column, octets([0]), "uint", curves=curve)
         self.raises(ValueError, None, column, octets([0]), "uint", curves=numpy.array([]))

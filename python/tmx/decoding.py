@@ -65,7 +65,8 @@ class Polynomial:
         if isinstance(coefficients, (str, bytes, bytearray, memoryview, Mapping, Set)) or getattr(coefficients, "ndim", 1) != 1:
             raise TypeError(f"a polynomial takes a list of coefficients, and not {coefficients!r}")
         if callable(coefficients):  # as a series of numpy, whose coefficients may be of other terms, or in another order
-            raise TypeError(f"a polynomial takes a list of coefficients, and not {type(coefficients).__qualname__}")
+            said = f"{type(coefficients).__module__}.{type(coefficients).__qualname__}"
+            raise TypeError(f"a polynomial takes a list of coefficients, and not {said}; a series of numpy is a curve itself")
         object.__setattr__(self, "coefficients", tuple(map(float, coefficients)))
         if not self.coefficients:
             raise ValueError("a polynomial has coefficients")

@@ -153,8 +153,10 @@ class Ticks:
         nanoseconds, microseconds = (scale_of(seconds, offset, it) for it in (NANOSECONDS, SECOND))
         numpy, clock = module("numpy"), clock_of(self.epoch)
         if numpy is not None and isinstance(values, numpy.ndarray) and values.dtype.kind in "uif" and values.ndim == 1:
-            is_float = values.dtype.kind == "f"
-            counted = (counted_floats if is_float else counted_numbers)(numpy, values, microseconds if is_float else nanoseconds, clock)
+            if values.dtype.kind == "f":
+                counted = counted_floats(numpy, values, microseconds, clock)
+            else:
+                counted = counted_numbers(numpy, values, nanoseconds, clock)
             if counted is not None:
                 return utc_of_array(numpy, counted, clock)
         numbers = values.tolist() if hasattr(values, "tolist") else list(values)

@@ -42,4 +42,4 @@ complete -c tmx -n $command -l stop-after -x -d 'How many records further to sto
 complete -c tmx -n $command -l resume -r -F -d 'The checkpoint to go on from'
 
 set -l command '__tmx_command_is packets extract split fields summary'
-complete -c tmx -n $command -l strict -d 'Status 4 or 5 if anything is bad or lost'
+complete -c tmx -n $command -l strict -d 'Status 4 or 5 by what is bad or lost'

@@ -44,7 +44,7 @@ _tmx() {
         options+=('--resume=[the checkpoint to go on from]:FILE:_files')
         ;|
     packets|extract|split|fields|summary)
-        options+=('--strict[status 4 or 5 if anything is bad or lost]')
+        options+=('--strict[status 4 or 5 by what is bad or lost]')
         ;|
     esac
     _arguments $options '1:RECORDING:_files'

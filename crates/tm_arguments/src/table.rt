@@ -54,7 +54,7 @@ const RECORDING: Argument = Argument {
 
 const REPORT: Argument = Argument {
     name: "report",
-    help: "The report of what is bad or lost; standard error if it is left out; - is a file of this name",
+    help: "The report of what is bad or lost, and of whole groups; standard error if it is left out; - is a file of this name",
     required: false,
     form: ArgumentForm::Text("FILE"),
 };
@@ -82,7 +82,7 @@ const RESUME: Argument = Argument {
 
 const STRICT: Argument = Argument {
     name: "strict",
-    help: "Status 5 without a good frame of a chosen channel, else 4 if anything is bad or lost",
+    help: "Status 5 without a good frame of a chosen channel, else 4 if anything is bad or lost (VCA frames and octets left at the end aside)",
     required: false,
     form: ArgumentForm::Flag,
 };

@@ -156,7 +156,8 @@ struct tmx_answer {
     size_t checkpoint_length; /* the checkpoint for the next call; 0 where `last` was not 0 */
     size_t used;              /* so many octets of the chunk were used: all of its whole records, or all octets where `last` was not 0 */
     uint32_t strict;          /* the status that `tmx --strict` ends with (docs/FORMATS.md), for the records of this call: 5 where none is a good
-                                 frame of a chosen channel, else 4 where anything is bad or lost, else 0. TMX_FRAMES has that of TMX_EXTRACT */
+                                 frame of a chosen channel, else 4 where anything is bad or lost, VCA frames and octets left at the end aside,
+                                 else 0. TMX_FRAMES has that of TMX_EXTRACT */
     uint32_t row_length;      /* how many octets each row of TMX_BINARY_FIELDS has by the definition; 0 where none was read */
 };
 
@@ -184,8 +185,8 @@ typedef struct tmx_job tmx_job;
 enum { TMX_LINE_MOST = 320 };
 
 /* Why a job isn't opened, or takes no definition: as the first numbers of struct tmx_answer, and the line that the program prints, with the name
-   of the key, and for a file's name `settings`, `definition` or `checkpoint`. Only a line with the name of an unknown key can be longer than its room, and is cut. If memory runs out meanwhile, the line says
-   that. */
+   of the key, and for a file's name `settings`, `definition` or `checkpoint`. Only a line with the name of an unknown key can be longer than its
+   room, and is cut. If memory runs out meanwhile, the line says that. */
 struct tmx_error {
     uint32_t status; /* an enum tmx_status */
     uint32_t fault;
@@ -199,15 +200,16 @@ struct tmx_error {
 enum tmx_event_kind {
     TMX_EVENT_PACKET = 1,       /* a whole packet (from, octets, at, place, application, count, channel, flags, telecommand, secondary) */
     TMX_EVENT_BAD = 2,          /* a bad frame (why: an enum tmx_bad) */
-    TMX_EVENT_MASTER_GAP = 3,   /* frames of any channels are missing before this record (expected, found, missing) */
-    TMX_EVENT_GAP = 4,          /* frames of the channel are missing before this record (channel, expected, found, missing) */
+    TMX_EVENT_MASTER_GAP = 3,   /* frames of any channels are missing before this record, bad ones too (expected, found, missing) */
+    TMX_EVENT_GAP = 4,          /* frames of the channel are missing before this record, bad ones too (channel, expected, found, missing) */
     TMX_EVENT_VCA = 5,          /* a frame with other data than packets (channel) */
     TMX_EVENT_DROP = 6,         /* octets of packets are dropped (from, octets, place, channel, why: an enum tmx_drop) */
     TMX_EVENT_SHORT = 7,        /* at the end octets are left that are no whole record (octets) */
-    TMX_EVENT_SEQUENCE_GAP = 8, /* packets of the application are missing (channel, application, expected, found, missing) */
-    TMX_EVENT_BROKEN = 9,       /* a group lacks a segment: its first count and last one (channel, application, expected, found, why: an enum tmx_broken) */
+    TMX_EVENT_SEQUENCE_GAP = 8, /* packets of the application are missing in this channel (channel, application, expected, found, missing) */
+    TMX_EVENT_BROKEN = 9,       /* a group that is incomplete: its first count, and the last one before it was broken off; later segments of it
+                                   come as strays (channel, application, expected, found, why: an enum tmx_broken) */
     TMX_EVENT_GROUP = 10,       /* a whole group: its first count and its last (channel, application, expected, found) */
-    TMX_EVENT_STRAY = 11,       /* a segment of no group (channel, application, count, flags) */
+    TMX_EVENT_STRAY = 11,       /* a segment in no open group (channel, application, count, flags) */
     TMX_EVENT_ROW = 12,         /* a row of fields, after the notes of its packet (octets, at, application, count, channel); it has no line */
     TMX_EVENT_SHORT_PACKET = 13 /* a packet that is too short for its row (from, octets, at: the bits that are needed, place, application, count, channel) */
 };

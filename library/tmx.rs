@@ -1,4 +1,4 @@
-//! A safe wrapper of `libtmx`: a job takes a recording as it comes, and gives its packets and what is bad or lost. `tmx.h` says what the
+//! A safe wrapper of `libtmx`: a job takes a recording as it comes, and gives its packets and the report. `tmx.h` says what the
 //! numbers mean. It is one file that needs the standard library alone, of Rust 1.82 or later: copy it beside a program as `mod tmx;`, or into a
 //! crate as `src/lib.rs`.
 //! Link it by `rustc -L FOLDER -l static=tmx`, FOLDER being that of `libtmx.a`, or by a `build.rs` that prints

@@ -94,7 +94,7 @@ def library_beside() -> Path | None:
 
 
 class Given(NamedTuple):
-    """What a chunk gave: the packets that its records complete, and what is bad or lost."""
+    """What a chunk gave: the packets that its records complete, and the report: what is bad or lost, and whole groups."""
 
     packets: list[Packet]
     report: list[Item]

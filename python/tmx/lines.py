@@ -180,7 +180,10 @@ def read_packet(lead: Lead, octets: bytes) -> Packet:
 
 @dataclass(frozen=True, slots=True)
 class MasterGap(Line):
-    """The counts of the master channel have a gap before this record: so many frames are missing, modulo 256."""
+    """Frames of any channels, `missing` of them modulo 256, are missing between the good frame before and this one.
+
+    A bad frame between them is one of these, if it is a frame of this spacecraft.
+    """
 
     word: ClassVar[str] = "mastergap"
     record: int
@@ -191,7 +194,10 @@ class MasterGap(Line):
 
 @dataclass(frozen=True, slots=True)
 class Gap(Line):
-    """The counts of the channel have a gap before this record: so many of its frames are missing, modulo 256."""
+    """Frames of the channel, `missing` of them modulo 256, are missing between its good frame before and this one.
+
+    A bad frame between them is one of these, if it is a frame of the channel.
+    """
 
     word: ClassVar[str] = "gap"
     record: int
@@ -225,7 +231,11 @@ class Dropped(Line):
 
 @dataclass(frozen=True, slots=True)
 class SequenceGap(Line):
-    """The packet's sequence count isn't the expected one: so many packets are missing, modulo 16384."""
+    """Packets of the application, `missing` of them modulo 16384, are missing in this channel.
+
+    Without a `Gap` or `Dropped` of the channel after the application's packet before, they are perhaps on another channel,
+    weren't sent, or were lost with a multiple of 256 frames of the channel.
+    """
 
     word: ClassVar[str] = "seqgap"
     record: int
@@ -238,7 +248,10 @@ class SequenceGap(Line):
 
 @dataclass(frozen=True, slots=True)
 class Broken(Line):
-    """A group of segments without its last one, by its first and its last count."""
+    """A group of segments that is incomplete: `first` and `last` are its first count and the last one before it was broken off.
+
+    Segments of the group may still come, its last one too.  They are `Stray`.
+    """
 
     word: ClassVar[str] = "broken"
     record: int
@@ -263,7 +276,10 @@ class Group(Line):
 
 @dataclass(frozen=True, slots=True)
 class Stray(Line):
-    """A segment that is in no group; `flag` is `continuation` or `last`."""
+    """A segment in no open group; `flag` is `continuation` or `last`.
+
+    An earlier segment of its group is missing, its group is broken already, or the segment came twice.
+    """
 
     word: ClassVar[str] = "stray"
     record: int

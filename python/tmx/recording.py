@@ -158,7 +158,7 @@ class Recording:
         return follow(job, seconds("interval", interval), timeout)
 
     def report(self, *, progress: Progress = False) -> list[Item]:
-        """What is bad or lost, in the program's order."""
+        """What is bad or lost, and whole groups, in the program's order."""
         with running(self.source, self.settings, Command(["extract"], reads="report"), progress=progress) as runs:
             found = [it for text in whole_lines(runs, 0) for it in read_lines(text, REPORT)]
             runs.finish()

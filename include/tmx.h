@@ -207,7 +207,7 @@ enum tmx_event_kind {
     TMX_EVENT_SHORT = 7,        /* at the end octets are left that are no whole record (octets) */
     TMX_EVENT_SEQUENCE_GAP = 8, /* packets of the application are missing in this channel (channel, application, expected, found, missing) */
     TMX_EVENT_BROKEN = 9,       /* a group that is incomplete: its first count, and the last one before it was broken off; later segments of it
-                                   come as strays (channel, application, expected, found, why: an enum tmx_broken) */
+                                   may come as strays (channel, application, expected, found, why: an enum tmx_broken) */
     TMX_EVENT_GROUP = 10,       /* a whole group: its first count and its last (channel, application, expected, found) */
     TMX_EVENT_STRAY = 11,       /* a segment in no open group (channel, application, count, flags) */
     TMX_EVENT_ROW = 12,         /* a row of fields, after the notes of its packet (octets, at, application, count, channel); it has no line */

@@ -11,7 +11,7 @@ Compared with each other are FORMATS.md and the manual: keys of settings, with t
 of definitions, with their numbers; the forms of printed lines; and the lines of faults.
 
 The sum of the logic that `tmx --version` prints is the one of `rt version`, where there is `rt`, and README.md and PROVED.md
-name it.
+name it.  The manual names the version.
 
 Prints a line `ok ..`, `FAILED: ..` or `SKIPPED: ..` for each, and at the end `plan N`, which is how many there were.
 """
@@ -281,8 +281,9 @@ def compare_faults():
 
 
 def compare_sums(tmx):
-    """The sum of the logic that proved the program."""
-    second = output_of(tmx, "--version").splitlines()[1]
+    """The version, and the sum of the logic that proved the program."""
+    first, second = output_of(tmx, "--version").splitlines()
+    tell("the version that the manual names", f'.Os "{first}"', next(it for it in MANUAL.splitlines() if it.startswith(".Os")))
     name = "the second line of --version beside rt version"
     if shutil.which("rt"):
         tell(name, re.search(r"logic \w+$", output_of("rt", "version").strip())[0], second)

@@ -20,7 +20,7 @@ trap 'end_jobs; rm -rf "$folder"' EXIT
 cd "$folder" || exit 2
 export GIVE_UP=1 LARGEST=65536 ANYTHING=1 ROUNDS=1 PICTURED=400 CHUNKED=1
 python=$(command -v python3)
-with_parts="live pictures python install terminal arguments library"
+with_parts="live pictures python install terminal arguments sentences library"
 passed=0
 failed=0
 skipped=0

@@ -250,7 +250,7 @@ class SequenceGap(Line):
 class Broken(Line):
     """A group of segments that is incomplete: `first` and `last` are its first count and the last one before it was broken off.
 
-    Segments of the group may still come, its last one too.  They are `Stray`.
+    Segments of the group may still come, its last one too, as `Stray`.
     """
 
     word: ClassVar[str] = "broken"

@@ -214,10 +214,11 @@ def check_strays(program: Program) -> None:
 
 
 def check_broken(program: Program) -> None:
-    reasons, later = set(), set()
+    reasons, later, again = set(), set(), set()
     words = {FIRST: "first", UNSEGMENTED: "unsegmented"}
     for sent, kept, ran in runs_of_groups(program.tmx):
         strays = {it.number("count") for it in ran.of("stray")}
+        whole = {it.number("first") for it in ran.of("group")}
         for line in ran.of("broken"):
             first, last = line.number("first"), line.number("last")
             at = line.number("record")
@@ -231,7 +232,10 @@ def check_broken(program: Program) -> None:
             its_last = next((count for count, it in enumerate(sent) if (it.group, it.flags) == (sent[first].group, LAST)), -1)
             if its_last > last and its_last in kept[at:] and first not in kept[at:]:
                 later.add(its_last in strays)
+            if first in whole:
+                again.add(len(kept) > len(set(kept)))
     same("reasons", reasons, {"gap", "first", "unsegmented", "end"})
+    same("a broken group that comes whole has a frame twice", again, {True})
     same("a last segment that comes later is a stray", later, {True})
 
 
@@ -678,14 +682,17 @@ TRIALS = (
         (
             (
                 FORMATS,
-                "a group that is incomplete: after its segments from the count first= to the count last= came no next one, but a gap"
-                " of counts, the first of a group, an unsegmented packet or the recording's end, which is W. The group's last segment"
-                " may still come, as a stray: don't put these segments together.",
+                "a group that is incomplete: its segments from the count first= to the count last= came, and then not its next one, but a"
+                " gap of counts, the first of a group, an unsegmented packet or the recording's end, which is W.",
             ),
-            (MANUAL, "A group that is incomplete: after its segments from the count first= to the count last= came no next one."),
-            (MANUAL, "The group's last segment may still come, as a stray: don't put these segments together."),
+            (MANUAL, "A group that is incomplete: its segments from the count first= to the count last= came, and then not its next one."),
+            (
+                FORMATS_AND_MANUAL,
+                "Don't put these segments together. The group's last segment may still come, as a stray, or the whole group, if a frame"
+                " was recorded twice.",
+            ),
             (LINES, "is incomplete: first and last are its first count and the last one before it was broken off."),
-            (LINES, "Segments of the group may still come, its last one too, as Stray."),
+            (LINES, "Segments of the group may still come, its last one too, as Stray, or the whole group, if a frame was recorded twice."),
             (
                 HEADER,
                 "a group that is incomplete: its first count, and the last one before it was broken off; later segments of it may come as"
@@ -728,8 +735,8 @@ TRIALS = (
         (
             (
                 FORMATS_AND_MANUAL,
-                "M frames of the channel, modulo 256, are missing between its good frame before and this one. The same holds of bad"
-                " frames and of missing=255.",
+                "M frames of the channel, modulo 256, are missing between its good frame before and this one. A bad frame between them is"
+                " one of the M, if it is a frame of this channel. missing=255 may be a frame recorded twice.",
             ),
             (LINES, "A bad frame between them is one of these, if it is a frame of the channel."),
         ),
@@ -776,15 +783,9 @@ TRIALS = (
         check_sequence_gap,
         (
             (
-                FORMATS,
-                "M packets of the application, modulo 16384, are missing in this channel. A gap or drop line of the channel after the"
-                " application's packet before is the likely cause. Without such a line the packets are perhaps on another channel,"
-                " weren't sent, or were lost with a multiple of 256 frames of the channel.",
-            ),
-            (
-                MANUAL,
-                "M packets of the application, modulo 16384, are missing in this channel. A gap or drop line of the channel after the"
-                " application's packet before is the likely cause. Without such a line the packets are perhaps on another channel,"
+                FORMATS_AND_MANUAL,
+                "M packets of the application, modulo 16384, are missing in this channel. A gap or drop line of the channel since the"
+                " application's previous packet is the likely cause. Without such a line the packets are perhaps on another channel,"
                 " weren't sent, or were lost with a multiple of 256 frames of the channel.",
             ),
             (LINES, "they are perhaps on another channel, weren't sent, or were lost with a multiple of 256 frames of the channel."),
@@ -858,6 +859,7 @@ TRIALS = (
                 " run that is killed has written more than its checkpoint says, and the run that goes on from there writes it again:",
             ),
             (PROVED, "a job that is killed isn't stopped, and what it wrote after its checkpoint is written again."),
+            (MANUAL, "A run that is killed has written more than its checkpoint says, and the run that goes on from there writes it again."),
         ),
     ),
     Trial(
@@ -866,10 +868,10 @@ TRIALS = (
         (
             (
                 FORMATS,
-                "If a reader ends early, as in tmx packets .. | head -n 1, and more than a pipe holds is left to write, the run ends with"
-                " tmx: write failed and status 1. This is expected: head has its lines, and tmx stops there.",
+                "If a reader ends before all is written, as in tmx packets .. | head -n 1, the run ends with tmx: write failed and status 1."
+                " This is expected: head has its lines, and tmx stops there. What a pipe holds, mostly 64 KiB, is written all the same.",
             ),
-            (MANUAL, "If the reader ends early, as head does, this is expected: the reader has its lines, and tmx stops there."),
+            (MANUAL, "If the reader ends before all is written, as head does, this is expected: the reader has its lines, and tmx stops there."),
         ),
     ),
     Trial(

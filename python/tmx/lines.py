@@ -233,7 +233,7 @@ class Dropped(Line):
 class SequenceGap(Line):
     """Packets of the application, `missing` of them modulo 16384, are missing in this channel.
 
-    Without a `Gap` or `Dropped` of the channel after the application's packet before, they are perhaps on another channel,
+    Without a `Gap` or `Dropped` of the channel since the application's previous packet they are perhaps on another channel,
     weren't sent, or were lost with a multiple of 256 frames of the channel.
     """
 
@@ -250,7 +250,7 @@ class SequenceGap(Line):
 class Broken(Line):
     """A group of segments that is incomplete: `first` and `last` are its first count and the last one before it was broken off.
 
-    Segments of the group may still come, its last one too, as `Stray`.
+    Segments of the group may still come, its last one too, as `Stray`, or the whole group, if a frame was recorded twice.
     """
 
     word: ClassVar[str] = "broken"

@@ -443,7 +443,10 @@ def kill_after(program: Program, octets: bytes, count: int) -> None:
 
 
 def check_kill(program: Program) -> None:
-    """40 records by a checkpoint, 60 by a run that is killed, and all by the run after: `>>` gives 60 of 100 lines twice."""
+    """40 records by a checkpoint, 60 by a run that is killed, and all by the run after: `>>` gives 60 of 100 lines twice.
+
+    It gives each line once if the lines are cut back before.
+    """
     frames = Sender().frames([packet(it) for it in range(100)])
     program.prepare(b"".join(frames))
     out, checkpoint = program.folder / "out.txt", program.folder / "day.chk"
@@ -458,6 +461,10 @@ def check_kill(program: Program) -> None:
     checkpoint.write_bytes(before)
     kill_after(program, b"".join(frames), 100)
     same("the checkpoint after the kill", checkpoint.read_bytes() == before, True)
+    package = f"PYTHONPATH='{CLONE / 'python'}' PYTHONDONTWRITEBYTECODE=1 '{sys.executable}' -m tmx"
+    cut = f"cp out.txt cut.txt && {package} cut-back day.chk cut.txt && cp day.chk cut.chk"
+    same("cut-back", program.shell(f"{cut} && {words.replace('day', 'cut')} --resume cut.chk pass.rec >> cut.txt")[0], 0)
+    same("lines after cut-back", (program.folder / "cut.txt").read_text(encoding="ascii"), wanted)
     same("the run after the kill", program.shell(f"{words} --resume day.chk pass.rec >> out.txt")[0], 0)
     found = out.read_text(encoding="ascii").splitlines()
     same("lines", len(found), 160)
@@ -852,11 +859,16 @@ TRIALS = (
         check_kill,
         (
             (README, "gives in all what one run gives, if each run ends in order: after a kill outputs are ahead of the checkpoint."),
-            (README, "If the second run is killed, what it wrote is ahead of day.chk, and a further run writes it again:"),
+            (
+                README,
+                "If the second run is killed, what it wrote is ahead of day.chk, and a further run writes it again: cut the outputs back"
+                " before.",
+            ),
             (
                 FORMATS,
                 "If each run ends in order, the joined outputs are those of one run, but for a line that an older checkpoint can cost. A"
-                " run that is killed has written more than its checkpoint says, and the run that goes on from there writes it again:",
+                " run that is killed has written more than its checkpoint says, and the run that goes on from there writes it again: cut"
+                " the outputs back before.",
             ),
             (PROVED, "a job that is killed isn't stopped, and what it wrote after its checkpoint is written again."),
             (MANUAL, "A run that is killed has written more than its checkpoint says, and the run that goes on from there writes it again."),

@@ -29,8 +29,8 @@ from pathlib import Path
 HERE = Path(__file__).resolve().parent
 CLONE = HERE.parent
 SPACECRAFT, OTHER_SPACECRAFT = 42, 43
-ROOM = 20  # octets of a data field; a frame has 8 more
-SETTINGS = f"spacecraft = {SPACECRAFT}\nframe_length = {ROOM + 8}\nerror_control = true\n"
+DATA_FIELD = 20  # octets of a data field; a frame has 8 more
+SETTINGS = f"spacecraft = {SPACECRAFT}\nframe_length = {DATA_FIELD + 8}\nerror_control = true\n"
 CONTINUATION, FIRST, LAST, UNSEGMENTED = range(4)
 NO_PACKET_STARTS = 2047
 APID = 100
@@ -41,12 +41,12 @@ LIMIT = 60.0  # seconds: other trials may have the processors
 
 
 def packed(*parts: tuple[int, int]) -> bytes:
-    """Numbers, each in so many bits, the most significant first."""
+    """Pairs of a number and a length: each number in as many bits, the most significant first."""
     bits = "".join(f"{number:0{length}b}" for number, length in parts)
     return int(bits, 2).to_bytes(len(bits) // 8, "big")
 
 
-def packet(count: int, flags: int = UNSEGMENTED, octets: int = ROOM, apid: int = APID) -> bytes:
+def packet(count: int, flags: int = UNSEGMENTED, octets: int = DATA_FIELD, apid: int = APID) -> bytes:
     """A packet whose data are the two octets of its count again and again."""
     head = packed((0, 3), (0, 1), (0, 1), (apid, 11), (flags, 2), (count % 16384, 14), (octets - 7, 16))
     return head + ((count % 65536).to_bytes(2, "big") * octets)[: octets - 6]
@@ -70,12 +70,12 @@ class Sender:
     def frames(self, packets: Sequence[bytes], channel: int = 0) -> list[bytes]:
         """Frames of whole packets that fill them."""
         text = b"".join(packets)
-        if len(text) % ROOM:
+        if len(text) % DATA_FIELD:
             raise ValueError(f"{len(text)} octets don't fill frames")
         starts = list(itertools.accumulate(map(len, packets), initial=0))[:-1]
-        pointers = {it // ROOM: it % ROOM for it in reversed(starts)}
-        numbers = range(len(text) // ROOM)
-        return [self.frame(text[it * ROOM : (it + 1) * ROOM], pointers.get(it, NO_PACKET_STARTS), channel) for it in numbers]
+        pointers = {it // DATA_FIELD: it % DATA_FIELD for it in reversed(starts)}
+        numbers = range(len(text) // DATA_FIELD)
+        return [self.frame(text[it * DATA_FIELD : (it + 1) * DATA_FIELD], pointers.get(it, NO_PACKET_STARTS), channel) for it in numbers]
 
 
 def damaged(frame: bytes) -> bytes:
@@ -156,7 +156,7 @@ class Skipped(Exception):
 
 @dataclass(frozen=True)
 class Segment:
-    """A packet as it was sent: its count is its place in the list, and `group` is that of the sender, or 0."""
+    """A packet as it was sent: its count is its place in the list, and `group` is the sender's group to which it belongs, or 0."""
 
     flags: int
     group: int = 0
@@ -168,7 +168,7 @@ BETWEEN = [Segment(FIRST, 1), Segment(UNSEGMENTED), Segment(LAST, 1), Segment(FI
 
 
 def losses(number: int) -> Iterator[list[int]]:
-    """Which of so many frames are recorded, in order: each choice of them, and each with one of them twice."""
+    """For a number of frames each choice of those that are recorded, in order, and each choice with one of them twice."""
     for chosen in itertools.product((False, True), repeat=number):
         kept = [it for it, has in enumerate(chosen) if has]
         yield kept
@@ -255,7 +255,7 @@ def check_groups(program: Program) -> None:
 
 
 def between_two_good(lost: int, bad: int, foreign: int) -> list[bytes]:
-    """Two good frames: between them so many were lost, damaged, and of another spacecraft."""
+    """Two good frames, and between them as many as the numbers say that were lost, damaged, and of another spacecraft."""
     sender = Sender()
     frames = sender.frames([packet(it) for it in range(lost + bad + 2)])
     others = Sender(OTHER_SPACECRAFT, 77).frames([packet(it) for it in range(foreign)])
@@ -384,7 +384,7 @@ def check_256_of_two_channels(program: Program) -> None:
 def check_strict(program: Program) -> None:
     whole = Sender().frames([packet(it) for it in range(3)])
     sender = Sender()
-    with_vca = [*sender.frames([packet(0)]), sender.frame(bytes(ROOM), vca=True), *sender.frames([packet(1)])]
+    with_vca = [*sender.frames([packet(0)]), sender.frame(bytes(DATA_FIELD), vca=True), *sender.frames([packet(1)])]
     inside = Sender().frames([packet(0, octets=30), packet(1, octets=30)])[:2]
     groups = Sender().frames([packet(0, FIRST), packet(1, LAST)])
     cases: dict[str, tuple[bytes, int, list[str]]] = {
@@ -427,7 +427,7 @@ def wait_for(is_so: Callable[[], bool]) -> None:
 
 
 def kill_after(program: Program, octets: bytes, count: int) -> None:
-    """Ends a resumed run by SIGKILL while it waits, after so many lines of packets are in out.txt."""
+    """Ends a resumed run by SIGKILL while it waits, once out.txt has this number of lines."""
     files = ["--settings", "s.toml", "--resume", "day.chk", "--checkpoint", "day.chk", "--report", "report.txt"]
     line, out = [str(program.tmx), "packets", *files], program.folder / "out.txt"
     with out.open("ab") as file, subprocess.Popen(line, cwd=program.folder, stdin=subprocess.PIPE, stdout=file) as run:
@@ -594,9 +594,9 @@ def check_report_of_groups(program: Program) -> None:
 
 def check_secondary_header(program: Program) -> None:
     """A secondary header of its first octet alone, which says the version 00 and a length of 1 less 1."""
-    ran = program.run([Sender().frame(bytes(1) + packet(0, octets=ROOM - 1), secondary=True)], "packets")
+    ran = program.run([Sender().frame(bytes(1) + packet(0, octets=DATA_FIELD - 1), secondary=True)], "packets")
     found = lines(ran.out.decode())
-    same("packets", [(it.number("at"), it.number("octets")) for it in found], [(0, ROOM - 1)])
+    same("packets", [(it.number("at"), it.number("octets")) for it in found], [(0, DATA_FIELD - 1)])
 
 
 def check_lengths(program: Program) -> None:
@@ -844,12 +844,12 @@ TRIALS = (
         (
             (
                 FORMATS,
-                "One that ends inside a packet, as most do, has 4 by the packet's drop line, with reason=end, even if it is undamaged. With"
+                "One that ends inside a packet has 4 by the packet's drop line, with reason=end, even if it is undamaged. With"
                 " --checkpoint the packet is kept, and the status is 0. A summary takes no checkpoint.",
             ),
             (
                 MANUAL,
-                "A recording that ends inside a packet, as most do, has 4 by the packet's drop line even if it is undamaged; with"
+                "A recording that ends inside a packet has 4 by the packet's drop line even if it is undamaged; with"
                 " --checkpoint the packet is kept, and the status is 0.",
             ),
         ),
@@ -890,17 +890,21 @@ TRIALS = (
         "nc of netcat-openbsd",
         check_nc_openbsd,
         (
-            (README, "nc may be that of Debian's netcat-openbsd or netcat-traditional. Without -p only the first listens on port 5000;"),
+            (
+                README,
+                "nc is in two packages of Debian, netcat-openbsd and netcat-traditional, and either will do. Without -p only the first"
+                " listens on port 5000;",
+            ),
             (README, "Both end when the sender disconnects for the first time: what it sends on a second connection isn't recorded."),
-            (MANUAL, "It ends when the sender disconnects for the first time."),
+            (MANUAL, "It ends when the sender disconnects for the first time: what comes on a second connection isn't recorded."),
         ),
     ),
     Trial(
         "nc of netcat-traditional",
         check_nc_traditional,
         (
-            (README, "the other takes a port of its own choice, and nothing is recorded."),
-            (MANUAL, "without -p the latter listens on a port of its own choice."),
+            (README, "the second takes a port of its own choice, and nothing is recorded."),
+            (MANUAL, "without -p the second listens on a port of its own choice, and nothing is recorded."),
         ),
     ),
     Trial("a secondary header of one octet", check_secondary_header, (("docs/FRAMES.md", "| 1 to 64 octets, 1 being (own) |"),)),

@@ -416,7 +416,7 @@ class Programs(TestCase):
         self.assertEqual(self.killed("packets", '"$real" "$@"'), whole)
 
     def test_killed_at_the_end(self) -> None:
-        self.program('"$real" "$@"\ncase $* in *" -- "*) kill -KILL $$; esac')  # not where only settings are looked at
+        self.program('"$real" "$@"\ncase $* in *" -- "* | extract*) kill -KILL $$; esac')  # not where only settings are looked at
         recording = example()
         for call in (
             lambda: list(recording.frames()),

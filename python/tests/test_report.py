@@ -395,7 +395,7 @@ class Recordings(ReportCase):
             Path("pass.rec").write_bytes(made(plan_of("0 0 0")))
             status, said = command("report", "--settings", "s.toml", "pass.rec", out="page")
             self.assertEqual((status, Path("page").read_bytes()), (1, b""), when)
-            self.assertIn("disagree: did the recording change?", said)
+            self.assertIn("had 96 octets, and has 64: the file was cut while it was read", said)
 
 
 class Lines(ReportCase):

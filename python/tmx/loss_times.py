@@ -4,7 +4,6 @@ A station may put a time of receipt into octets of each record that the settings
 have a time on board.
 """
 
-import os
 import re
 from bisect import bisect_left, bisect_right
 from collections.abc import Iterable
@@ -114,12 +113,12 @@ class NoTimes:
 
 
 class ReceiptTimes:
-    """The time of receipt that each record has."""
+    """The time of receipt that each record has, of those that so many octets have."""
 
-    def __init__(self, path: str, settings: Settings, receipt: Receipt) -> None:
+    def __init__(self, path: str, settings: Settings, receipt: Receipt, octets: int) -> None:
         """Raises TimeError where its octets aren't passed over, or are no time in the first record."""
         self.path, self.length, self.place = path, settings.record_length, receipt.place
-        self.records = os.path.getsize(path) // self.length
+        self.records = octets // self.length
         self.clock = clock_of(receipt.epoch)
         self.said = f"Times are those of receipt: octet {receipt.place} of each record, {receipt.form} from {receipt.epoch} on."
         if self.records:

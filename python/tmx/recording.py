@@ -58,8 +58,8 @@ class Recording:
 
     Nothing is read before it is asked for.  Each call runs the program `tmx`.  Whatever the program refuses is raised as an
     error of this package, with its line, its status and its word.  So is a run that fails on its way: an iterator then raises at
-    its end, and what it gave before stands.  Where no frame is good, or nothing of a chosen channel or application comes, a
-    TmxWarning says so.
+    its end, and what it gave before stands.  A file that has fewer octets at the end of a call than at its beginning raises a
+    DisagreementError.  Where no frame is good, or nothing of a chosen channel or application comes, a TmxWarning says so.
 
     With `progress=True` a call shows how many octets it has read, at a terminal and in a notebook alone: as a bar of `tqdm` where
     that is there, else as a line.  A function is told the octets that were read, and how many there are, or None.

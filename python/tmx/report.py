@@ -41,7 +41,7 @@ from .notes import settings_of
 from .programs import VERSION, program
 from .recording import Recording
 from .runs import Command, line_blocks, running
-from .source import Source, refuse_to_overwrite
+from .source import BLOCK, Part, Source, refuse_to_overwrite
 from .summary import Summary
 
 MOST_LINES, MOST_OUTAGES = 200, 20  # that a page shows
@@ -340,11 +340,15 @@ def regular_file(given: Name) -> Iterator[str]:
 
 
 def read_recording(recording: Recording, summary: Summary, report: str) -> Reading:
-    """Runs the program over a recording.  Its report goes to a file."""
-    commands = Command(["frames"]), Command(["packets", "--report", report])
-    with running(recording.source, recording.settings, *commands, progress=True) as runs:
+    """Runs the program over a recording, once and once more, so that nothing is kept of one run while the other is read.
+
+    Its report goes to a file.
+    """
+    with running(recording.source, recording.settings, Command(["frames"]), progress=True) as runs:
         records = records_of(line_blocks(runs, 0))
-        ends = ends_of(line_blocks(runs, 1), summary.applications)
+        runs.finish()
+    with running(recording.source, recording.settings, Command(["packets", "--report", report]), progress=True) as runs:
+        ends = ends_of(line_blocks(runs, 0), summary.applications)
         runs.finish()
     losses, columns = Losses(), Columns(len(records))
     with open(report, encoding="ascii") as file:
@@ -352,9 +356,21 @@ def read_recording(recording: Recording, summary: Summary, report: str) -> Readi
     return Reading(summary, Damage(records), ends, losses, svg)
 
 
-def sha256_of(path: str) -> str:
-    with open(path, "rb") as file:
-        return hashlib.file_digest(file, "sha256").hexdigest()
+def part_of(path: str, settings: Name) -> Part:
+    """The octets that a recording has now.  Raises what the program says where it can't be read."""
+    if (part := Source(path).part()) is None:
+        Recording(path, settings).counts()
+        part = Part(path)
+    return part
+
+
+def sha256_of(part: Part) -> str:
+    """The sum of all octets of a part.  Raises DisagreementError where some are gone."""
+    found = hashlib.sha256()
+    part.seek(0)
+    while octets := part.read(BLOCK):
+        found.update(octets)
+    return found.hexdigest()
 
 
 def versions() -> dict[str, str]:
@@ -367,12 +383,12 @@ def versions() -> dict[str, str]:
 # Parts of what is found.
 
 
-def recording_part(summary: Summary, name: str | None, path: str, record_length: int) -> RecordingPart:
-    """Raises DisagreementError where the file has other octets than were counted."""
-    counts, octets = summary.recording, os.path.getsize(path)
-    if octets != counts.records * record_length + counts.rest:
+def recording_part(summary: Summary, name: str | None, part: Part, record_length: int) -> RecordingPart:
+    """Raises DisagreementError where the file had other octets than were counted, or has lost some."""
+    counts = summary.recording
+    if part.octets != counts.records * record_length + counts.rest:
         raise DisagreementError("the summary and the file disagree: did the recording change?")
-    return RecordingPart(name, octets, sha256_of(path), counts, summary.faults)
+    return RecordingPart(name, part.octets, sha256_of(part), counts, summary.faults)
 
 
 def frame_part(reading: Reading) -> FramePart:
@@ -416,7 +432,7 @@ def report_part(losses: Losses, file: Name | None, times: Times) -> ReportPart:
 
 
 def find(given: str, settings_file: str, asked: Asked) -> tuple[Findings, str]:
-    """What is said of a recording, `-` being standard input, and the map of its losses.
+    """What is said of a recording, `-` being standard input, and the map of its losses.  All that is read are the octets it has now.
 
     Raises what the program refuses, SettingsError for TOML 1.1, TimeError, DisagreementError and OSError.
     """
@@ -425,14 +441,15 @@ def find(given: str, settings_file: str, asked: Asked) -> tuple[Findings, str]:
         refuse_to_overwrite(asked.report, Source(given).file, settings_file, definition)
     with ExitStack() as files:
         path, rules = (files.enter_context(regular_file(it)) for it in (given, settings_file))
-        recording = Recording(path, rules)
+        part = files.enter_context(part_of(path, rules))
+        recording = Recording(part, rules)
         summary, settings = recording.summary(), settings_of(rules)
         if settings is None:
             why = f"the settings {settings_file}: Python reads TOML 1.0 alone"
             raise SettingsError("tmx: settings: toml", 2, "toml", why, settings_file)
         times: Times = NoTimes()
         if isinstance(asked.times, Receipt):
-            times = ReceiptTimes(path, settings, asked.times)
+            times = ReceiptTimes(path, settings, asked.times, part.octets)
         kept = None if asked.report is None else files.enter_context(NewFile(asked.report)).file
         report = files.enter_context(tempfile.NamedTemporaryFile())
         reading = read_recording(recording, summary, report.name)
@@ -440,8 +457,9 @@ def find(given: str, settings_file: str, asked: Asked) -> tuple[Findings, str]:
             times = MeasuredTimes(recording, asked.times, reading.shown())
         if kept is not None:
             shutil.copyfileobj(report, kept)
-        part = recording_part(summary, None if given == "-" else given, path, settings.record_length)
-        found = findings_of(asked, part, {"file": settings_file} | asdict(settings), reading, times)
+        whole = recording_part(summary, None if given == "-" else given, part, settings.record_length)
+        found = findings_of(asked, whole, {"file": settings_file} | asdict(settings), reading, times)
+        part.check()
     return found, reading.svg
 
 

@@ -9,7 +9,7 @@ import tempfile
 import time
 from collections import deque
 from collections.abc import Callable, Iterator, Sequence
-from contextlib import contextmanager, suppress
+from contextlib import contextmanager, nullcontext, suppress
 from dataclasses import dataclass, replace
 from types import TracebackType
 from typing import IO, Literal, Self
@@ -142,8 +142,8 @@ class Run:
 class Runs:
     """Runs of the program that read one recording side by side.
 
-    Of a file each run reads what it needs.  A stream is fed to all of them block by block.  What they give meanwhile is
-    kept until it is asked for, so that none of them waits for another.
+    A file is read by a single run, to its end; it mustn't have fewer octets at the end than at the beginning.  A stream is fed to
+    all runs block by block.  What they give meanwhile is kept until it is asked for, so that none of them waits for another.
     """
 
     def __init__(self, source: Source, commands: Sequence[Command], show: Show | None = None) -> None:
@@ -156,6 +156,7 @@ class Runs:
         self.left: dict[int, memoryview] = {}  # of each run that takes input, what it hasn't yet taken of the block
         self.write: Callable[[int, memoryview], int] = os.write
         self.selector = selectors.DefaultSelector()
+        self.part = source.part()  # of a file the octets that have to be there at the end
         source.open()
         try:
             for command in commands:
@@ -178,6 +179,8 @@ class Runs:
             run.close()
         self.selector.close()
         self.source.close()
+        if self.part is not None:
+            self.part.close()
 
     def start_feeding(self) -> None:
         """Watches the outputs of all runs, and makes their inputs such that they don't block."""
@@ -299,7 +302,7 @@ class Runs:
     def finish(self) -> None:
         """To be called when what is wanted was read.  Raises the error of a run that has ended with a fault.
 
-        Raises DisagreementError where a run gives more than was read.
+        Raises DisagreementError where a run gives more than was read, or the file has lost octets since it was opened.
         """
         for run in self.runs:
             if run.at_end and (fault := run.fault()):
@@ -309,6 +312,8 @@ class Runs:
                 raise DisagreementError("one run of the program gives more than another: did the recording change?")
             if fault := run.fault():
                 raise fault
+        if self.part is not None:
+            self.part.check()
         if self.show is not None:
             stops = any("--stop-after" in run.words for run in self.runs)
             self.show(self.shown if stops else self.source.octets() or 0)
@@ -322,14 +327,16 @@ class Runs:
 def running(
     source: Source, settings: str | os.PathLike[str] | Settings, *commands: Command, progress: Progress = False
 ) -> Iterator[Runs]:
-    """Runs of these commands over a recording, side by side, with these settings.
+    """Runs of these commands over a recording, side by side, with these settings.  Several read the octets that a file has now.
 
     Raises FileError where they would write over a recording that has no name for the program, which looks at the others.
     """
     for name in (word_behind(it, command.words) for command in commands for it in ("--report", "--checkpoint")):
         if name is not None and source.path is None:
             refuse_to_overwrite(name, source.file)
-    with settings_file(settings) as name, showing(progress, source.length()) as show:
+    part = source.part() if len(commands) > 1 else None
+    source = source if part is None else Source(part)
+    with part or nullcontext(), settings_file(settings) as name, showing(progress, source.length()) as show:
         named = [replace(it, words=[*it.words, "--settings", name]) for it in commands]
         try:
             with Runs(source, named, show) as runs:

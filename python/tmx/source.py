@@ -5,9 +5,10 @@ import io
 import os
 import stat
 import sys
+from contextlib import suppress
 from typing import Any, Protocol
 
-from .errors import ConsumedError, FileError
+from .errors import ConsumedError, DisagreementError, FileError
 
 BLOCK = 1 << 17  # octets that are fed at once
 
@@ -16,6 +17,35 @@ class Stream(Protocol):
     """A binary stream, as a file, `gzip.open` and `tmx.cut` give it."""
 
     def read(self, most: int, /) -> bytes: ...
+
+
+class Part(io.FileIO):
+    """The octets that a file has when it is opened, as a stream that can go back.  What is appended later isn't read.
+
+    octets  how many these are
+
+    Raises OSError where it can't be opened, and DisagreementError where some of its octets are gone when they are read.
+    """
+
+    def __init__(self, path: str) -> None:
+        super().__init__(path)
+        self.path = path
+        self.octets = os.fstat(self.fileno()).st_size
+
+    def read(self, most: int | None = -1, /) -> bytes:
+        left = max(0, self.octets - self.tell())
+        octets = super().read(left if most is None or most < 0 else min(most, left)) or b""
+        if left and most and not octets:
+            raise self.cut(self.tell())
+        return octets
+
+    def check(self) -> None:
+        """Raises DisagreementError where the file has fewer octets now."""
+        if (now := os.fstat(self.fileno()).st_size) < self.octets:
+            raise self.cut(now)
+
+    def cut(self, now: int) -> DisagreementError:
+        return DisagreementError(f"{self.path} had {self.octets} octets, and has {now}: the file was cut while it was read")
 
 
 class Source:
@@ -65,6 +95,12 @@ class Source:
         path = self.path
         return path is None or os.path.exists(path) and not os.path.isdir(path) and not stat.S_ISREG(os.stat(path).st_mode)
 
+    def part(self) -> Part | None:
+        """The octets that a file has now, by its name; None of a stream, and where it can't be opened: the program says why."""
+        with suppress(OSError):
+            return None if self.path is None or self.is_stream else Part(self.path)
+        return None
+
     def open(self) -> None:
         """Opens what has to be fed to programs, at its beginning.  Raises what `open_stream` does."""
         if self.is_stream:
@@ -79,7 +115,7 @@ class Source:
             raise ConsumedError("the recording is a stream, and is being read: only one thing at a time can read it")
         self.fed = 0
         if self.path is not None:
-            self.stream = open(self.path, "rb")
+            self.stream = open(self.path, "rb") if self.is_stream else Part(self.path)
             return
         if self.was_read and self.beginning is None:
             raise ConsumedError("the recording is a stream that can be read only once, and was read already")
@@ -113,6 +149,8 @@ class Source:
         """How many octets are read of it to its end; None where that isn't known before."""
         if self.path is not None:
             return file_length(self.path)
+        if isinstance(self.given, Part):
+            return self.given.octets
         if not isinstance(getattr(self.given, "raw", self.given), io.FileIO):  # as gzip's
             return None
         length = file_length(self.given.fileno())

@@ -10,7 +10,7 @@ from pathlib import Path
 
 from .arguments import RECORDS, Number, number
 from .checkpoints import CutBackError, Name, NewFile, records_done
-from .errors import RunError
+from .errors import DisagreementError, RunError
 from .lines import Packet, keep_parts, new_packet
 from .notes import warn_of_nothing
 from .packets import Chosen, Missing, PacketArray, array_of, blocks_of
@@ -145,11 +145,13 @@ def next_step(job: Job) -> Job:
 
 
 def follow_file(job: Job, interval: float, timeout: float | None) -> Iterator[Packet]:
-    """A step whenever the file has another length and a record is there that isn't done."""
+    """A step whenever the file has another length and a record is there that isn't done.  Raises DisagreementError where it shrinks."""
     record = record_length(job.settings)
     grown, length = time.monotonic(), -1
     while True:
         length, before = os.path.getsize(job.source.given), length
+        if length < before:
+            raise DisagreementError(f"{job.source.given} had {before} octets, and has {length}: the file was cut while it was followed")
         step = next_step(job)
         if length != before and step.records_there(record) != 0:
             yield from step.packets()

@@ -16,6 +16,7 @@ from .definition import Column
 from .engine import Engine, Given
 from .errors import (
     CheckpointError,
+    ClosedError,
     ColumnError,
     ConsumedError,
     DefinitionError,
@@ -75,6 +76,7 @@ __all__ = [
     "Broken",
     "ChannelCounts",
     "CheckpointError",
+    "ClosedError",
     "Column",
     "ColumnError",
     "ConsumedError",

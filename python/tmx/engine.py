@@ -10,11 +10,11 @@ from collections.abc import Callable
 from ctypes.util import find_library
 from functools import cache
 from pathlib import Path
-from typing import Any, NamedTuple
+from typing import Any, NamedTuple, Self
 
 from .arguments import APPLICATIONS, Numbers, numbers
 from .checkpoints import Name
-from .errors import DisagreementError, Error, FileError, LibraryMissingError, error_of
+from .errors import ClosedError, DisagreementError, Error, FileError, LibraryMissingError, error_of
 from .lines import REPORT, Packet, read_lines, read_packet
 from .recording import Item
 from .settings import Settings
@@ -115,11 +115,11 @@ class Events(NamedTuple):
 class Job:
     """A job of the library, and the rooms that it fills.  One thread after another may call it."""
 
-    def __init__(self, library: Any, settings: bytes, checkpoint: bytes, apids: frozenset[int] | None) -> None:
-        """Raises what settings or checkpoint are refused with.  Without octets of a checkpoint it begins anew."""
+    def __init__(self, library: Any, settings: bytes, checkpoint: bytes | None, apids: frozenset[int] | None) -> None:
+        """Raises what settings or checkpoint are refused with.  Without a checkpoint it begins with the recording."""
         self.library, self.job, self.lock, refusal = library, ctypes.c_void_p(), threading.Lock(), Refusal()
         words = self.job, settings, len(settings)
-        if checkpoint:
+        if checkpoint is not None:
             status = library.tmx_job_resume(*words, checkpoint, len(checkpoint), refusal)
         else:
             status = library.tmx_job_new(*words, refusal)
@@ -131,8 +131,14 @@ class Job:
         self.events, self.octets = (ctypes.create_string_buffer(it) for it in (EVENTS_ROOM * EVENT.size, OCTETS_ROOM))
         self.room = Room(ctypes.addressof(self.events), EVENTS_ROOM, ctypes.addressof(self.octets), OCTETS_ROOM)
 
+    def free(self) -> None:
+        """Gives its memory back.  No call but this one may follow."""
+        with self.lock:
+            self.library.tmx_job_free(self.job)
+            self.job = ctypes.c_void_p()
+
     def __del__(self) -> None:
-        self.library.tmx_job_free(self.job)
+        self.free()
 
     def records(self) -> int:
         with self.lock:
@@ -190,52 +196,65 @@ def refused(line: str) -> Error:
 
 
 class Engine:
-    """A job over a recording that comes in chunks.
+    """A job over a recording that comes in chunks, which the constructor opens.
 
     settings    the name of a settings file, or Settings
-    checkpoint  the octets of a checkpoint to go on from; without them the job begins anew
+    checkpoint  the octets of a checkpoint to go on from; without one the job begins with the recording
     library     the file of the library; without it the one that TMX_LIBRARY names, else the one beside this package, else
                 libtmx.so where the system looks
     apid        the application whose packets are given, or several; None is all.  The report has notes of all
 
-    A thread that calls it needs 3 MiB of stack: `threading.stack_size(4 << 20)` before the thread starts.
+    Raises SettingsError, CheckpointError, FileError, OutOfMemoryError, LibraryMissingError, and OSError where the settings can't
+    be read.  A thread that makes one needs 3 MiB of stack: `threading.stack_size(4 << 20)` before the thread starts.
 
-    `checkpoint` is what the next engine goes on from, behind the records that are done.  `records` is how many these are, from
-    the first call on.  An `Error` that a call raises leaves the engine as it was; any other exception may lose what the call
-    took.  One thread at a time may call it.
+        with tmx.Engine("settings.toml") as engine:
+            packets, report = engine.feed(octets)
+            packets, report = engine.close()
+
+    `checkpoint` is what the next engine goes on from.  `records` is how many records are done, and `record_length` how many octets
+    each has: the next engine is fed from octet `records * record_length` of the recording on.
+
+    `close`, and the end of a `with`, free the job: a later call raises ClosedError.  Any other `Error` that a call raises leaves the
+    engine as it was, and any other exception may lose what the call took.  One thread at a time may call it.
     """
 
     def __init__(
-        self, settings: Name | Settings, checkpoint: bytes = b"", library: Name | None = None, apid: Numbers = None
+        self, settings: Name | Settings, checkpoint: bytes | None = None, library: Name | None = None, apid: Numbers = None
     ) -> None:
+        apids = numbers("apid", apid, APPLICATIONS)
         named = library or os.environ.get("TMX_LIBRARY") or library_beside() or find_library("tmx") or "libtmx.so"
         self.library = load_library(os.fspath(named))
         if isinstance(settings, Settings):
-            self.settings = settings.toml().encode()
+            rules = settings.toml().encode()
         else:
             with open(settings, "rb") as file:
-                self.settings = file.read()
-        self.kept, self.job, self.rest = checkpoint, None, 0
-        self.apids = numbers("apid", apid, APPLICATIONS)
+                rules = file.read()
+        kept = None if checkpoint is None else b"" + checkpoint  # which may be a bytearray
+        self.job: Job | None = Job(self.library, rules, kept, apids)
+        self.record_length: int = self.job.record_length
+        self.rest = 0  # octets of a record that isn't whole
 
-    kept: bytes  # the checkpoint where no job is open
-    job: Job | None
-    rest: int  # octets of a record that isn't whole
+    def __enter__(self) -> Self:
+        return self
+
+    def __exit__(self, *_: object) -> None:
+        """Frees the job.  What `close` would give isn't told."""
+        self.free()
 
     @property
     def checkpoint(self) -> bytes:
-        return self.kept if self.job is None else self.job.checkpoint()
+        return self.opened().checkpoint()
 
     @property
     def records(self) -> int:
-        return 0 if self.job is None else self.job.records()
+        return self.opened().records()
 
     def feed(self, octets: bytes) -> Given:
         """The next octets of the recording, any number.  Gives what their whole records give."""
         return self.read(*self.fed(octets))
 
     def close(self) -> Given:
-        """The end of the recording: gives what is reported where it is closed.  The engine then begins anew."""
+        """The end of the recording: gives what is reported where it is closed, and frees the job."""
         return self.read(*self.closed())
 
     def feed_events(self, octets: bytes) -> Events:
@@ -247,10 +266,15 @@ class Engine:
         return events_of(*self.closed())
 
     def opened(self) -> Job:
-        """The job, which the first call opens."""
+        """The job.  Raises ClosedError where it was freed."""
         if self.job is None:
-            self.job = Job(self.library, self.settings, self.kept, self.apids)
+            raise ClosedError("the engine is closed: make another one")
         return self.job
+
+    def free(self) -> None:
+        if self.job is not None:
+            self.job.free()
+        self.job = None
 
     def fed(self, octets: bytes) -> tuple[bytes, bytes]:
         job, octets = self.opened(), b"" + octets  # which may be a bytearray
@@ -262,7 +286,7 @@ class Engine:
 
     def closed(self) -> tuple[bytes, bytes]:
         given = self.opened().end()
-        self.kept, self.job, self.rest = b"", None, 0
+        self.free()
         return given
 
     def read(self, events: bytes, octets: bytes) -> Given:

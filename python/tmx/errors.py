@@ -33,6 +33,10 @@ class ConsumedError(Error):
     """The recording is a pipe that was read already.  Name a file, or read the pipe once."""
 
 
+class ClosedError(Error):
+    """An engine was closed, and is called again."""
+
+
 class ColumnError(Error):
     """A column that was asked for can't be given: two have its name, or it is none of the table."""
 

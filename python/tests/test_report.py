@@ -38,23 +38,27 @@ BEGIN = datetime(2026, 11, 29, 10, 30)  # of the receipt of record 0, the others
 # Recordings.
 
 
-def frame(channel: int, master: int, count: int) -> bytes:
-    """A frame whose data field holds two packets."""
-    head = (42 << 4 | channel << 1).to_bytes(2, "big") + bytes([master % 256, count % 256]) + (0x1800).to_bytes(2, "big")
+def frame(channel: int, master: int, count: int, application: int, number: int, spacecraft: int = 42) -> bytes:
+    """A frame whose data field holds two packets of an application, the first of which has this number."""
+    head = (spacecraft << 4 | channel << 1).to_bytes(2, "big") + bytes([master % 256, count % 256]) + (0x1800).to_bytes(2, "big")
     packets = b""
-    for number in (2 * count, 2 * count + 1):
-        lead = ((100 + channel) << 32 | (0xC000 | number % 16384) << 16 | PACKET - 7).to_bytes(6, "big")
+    for it in (number, number + 1):
+        lead = (application << 32 | (0xC000 | it % 16384) << 16 | PACKET - 7).to_bytes(6, "big")
         packets += lead + bytes(PACKET - 6)
     octets = head + packets
     return octets + binascii.crc_hqx(octets, 0xFFFF).to_bytes(2, "big")
 
 
-def made(plan: list[tuple[int, str]]) -> bytes:
-    """A recording of frames that were sent: of each its channel, and what became of it."""
+def made(plan: list[tuple[int, str]], one_application: bool = False) -> bytes:
+    """A recording of frames that were sent: of each its channel, and what became of it.
+
+    Each channel has an application of its own, or all have the same one.
+    """
     counts: Counter[int] = Counter()
     found = []
     for master, (channel, fate) in enumerate(plan):
-        octets = frame(channel, master, counts[channel])
+        packets = (100, 2 * master) if one_application else (100 + channel, 2 * counts[channel])
+        octets = frame(channel, master, counts[channel], *packets)
         counts[channel] += 1
         if fate == DAMAGED:
             octets = octets[:-1] + bytes([octets[-1] ^ 1])
@@ -311,6 +315,105 @@ class Numbers(ReportCase):
         shown = Page(page(found, svg))
         self.assertIn("They do NOT add up", shown.text())
         self.assertEqual([row[-1] for row in shown.tables["Channels: octets"]], ["Adds up", "NO", "yes", "yes", "NO"])
+
+
+class Doubts(ReportCase):
+    """There is no percentage where the counts, which run modulo 256, don't tell how many frames are missing."""
+
+    CHANNELS = "between good frames the channels' counts miss more frames than the master channel's count does"
+    PACKETS = "the packets that the sequence counts miss have more octets than the missing frames and the lost parts"
+
+    def without(self, octets: bytes, *why: str) -> Findings:
+        """What is found of a recording of which the page gives no percentage, for just these reasons."""
+        found, shown = self.find(octets)
+        self.assertEqual(found.frames.doubts, list(why))
+        self.assertNotIn("%", shown.text())
+        self.assertNotIn("None", shown.text())
+        said = found.json()
+        parts = [said["frames"], said["octets"], *said["channels"], *said["applications"], *(it["octets"] for it in said["channels"])]
+        self.assertEqual({it["percent"] for it in parts}, {None})
+        self.assertEqual({it["expected"] for it in [said["frames"], *said["channels"], *said["applications"]]}, {None})
+        good = f"{found.recording.counts.good:,} frames are good. "
+        self.assertIn(f"{good}The counts don't tell how many frames are missing, so there is no percentage: {'; '.join(why)}.", shown.text())
+        return found
+
+    def outage(self, channels: int, missing: int, fate: str, number: int = 12000) -> bytes:
+        """A recording of frames of channels by chance, of which so many in its middle were lost or damaged."""
+        chance, begin = random.Random(missing), number // 3
+        return made([(chance.randrange(channels), fate if begin <= it < begin + missing else GOOD) for it in range(number)])
+
+    def test_a_long_outage(self) -> None:
+        """Of 12,000 frames 3,604 are missing, which is 14 times 256 and 20."""
+        found = self.without(self.outage(4, 3604, LOST), self.CHANNELS, self.PACKETS)
+        self.assertEqual((found.recording.counts.good, found.frames.master.missing), (8396, 20))
+        bad = "between good frames the gaps of the master channel have no place for 3,584 bad records"
+        self.without(self.outage(4, 3604, DAMAGED), self.CHANNELS, self.PACKETS, bad)
+        self.without(self.outage(1, 3604, DAMAGED), self.PACKETS, bad)
+
+    def test_an_outage_of_one_channel(self) -> None:
+        """The master channel's count and the channel's are one.  Each frame has two packets."""
+        for missing in (256, 276, 512, 3604, 7680):
+            self.without(self.outage(1, missing, LOST), self.PACKETS)
+
+    def test_an_outage_within_others(self) -> None:
+        """400 frames of channel 1 are lost, which comes no more, so that in all the channels' counts miss less than the master's."""
+        begun = [*[(1, GOOD), (0, GOOD)], *[*[(1, LOST)] * 200, (0, GOOD)] * 2, (2, GOOD), (3, GOOD)]
+        for lost, master, channels in (((196, 60, 0), 400, 256), ((150, 150, 150), 594, 450)):
+            plan = [(channel, LOST) for channel, number in zip((0, 2, 3), lost) for _ in range(number)]
+            found = self.without(made([*begun, *plan, *((it, GOOD) for it in (0, 2, 3))]), self.CHANNELS)
+            self.assertEqual((found.frames.master.missing, sum(it.counts.missing for it in found.channels)), (master, channels))
+
+    def test_a_frame_that_came_twice(self) -> None:
+        octets = made([(0, GOOD)] * 5)
+        twice = "in 1 gap of the master channel 255 frames are missing, as where one was recorded twice"
+        self.without(octets[:96] + octets[64:], self.PACKETS, twice)
+
+    def test_ordinary_losses(self) -> None:
+        """The percentage is that of the frames between the first good one and the last, which is what was sent there."""
+        for seed in range(40):
+            with self.subTest(seed=seed):
+                chance = random.Random(seed)
+                number = chance.randrange(1, 5)
+                plan = [(chance.randrange(number), chance.choices((GOOD, DAMAGED, LOST), (97, 2, 1))[0]) for _ in range(3000)]
+                at = chance.randrange(100, 2500)
+                plan[at : at + 40] = [(channel, LOST) for channel, _ in plan[at : at + 40]]
+                found, shown = self.find(made(plan))
+                fates = between([fate for _, fate in plan])
+                good, sent = fates[GOOD] + 1, fates.total() + 1
+                self.assertEqual((found.frames.doubts, found.frames.expected), ([], sent))
+                self.assertIn(f"{good * 10000 // sent / 100:.2f}% of the frames are good: {good:,} of {sent:,}.", shown.text())
+                self.assertEqual([it.percent is None for it in found.channels], [False] * number)
+
+    def test_counts_of_packets_on_several_channels(self) -> None:
+        """An application whose packets are counted over two channels has gaps on each, and nothing is lost."""
+        found, shown = self.find(made([(it % 2, GOOD) for it in range(100)], True))
+        self.assertEqual([it.counts.missing for it in found.applications], [98, 98])
+        self.assertIn("100.00% of the frames are good: 100 of 100.", shown.text())
+
+    def test_frames_of_another_sender(self) -> None:
+        """Their error control holds.  A record of noise is no frame, and finds no place either."""
+        octets = made([(0, GOOD)] * 4)
+        found, shown = self.find(octets[:64] + frame(0, 9, 9, 100, 0, 43) + octets[64:])
+        self.assertEqual((found.frames.doubts, found.recording.faults), ([], {"spacecraft": 1}))
+        self.assertIn("100.00% of the frames are good: 4 of 4.", shown.text())
+        self.without(octets[:64] + bytes(32) + octets[64:], "between good frames the gaps of the master channel have no place for 1 bad record")
+        self.assertEqual(self.find(bytes(32) + octets + bytes(32))[0].frames.doubts, [])
+
+    def test_a_channel_that_lost_256(self) -> None:
+        """The master channel's count tells it, since frames of another channel came between them.  The channel's own doesn't."""
+        plan = [(0, GOOD), (1, GOOD), *[(1, LOST)] * 100, (0, GOOD), *[(1, LOST)] * 156, (0, GOOD), (1, GOOD)]
+        found, shown = self.find(made(plan))
+        self.assertIn("1.91% of the frames are good: 5 of 261.", shown.text())
+        self.assertEqual([(it.counts.channel, it.expected, it.percent) for it in found.channels], [(0, 3, 100.0), (1, None, None)])
+        said = "Channel 1 has no percentage: the packets that its sequence counts miss have more octets than its missing frames"
+        self.assertIn(said, shown.text())
+        self.assertEqual([it.percent for it in found.applications], [100.0, 0.77])  # 4 packets of 516
+
+    def test_packets_that_came_twice(self) -> None:
+        """16,383 packets would be missing.  An application's percentage is given where its gaps are shorter than 8,192."""
+        octets = made([(0, GOOD)] * 5)
+        found, shown = self.find(octets[:96] + octets[64:])
+        self.assertEqual([(it.expected, it.percent, it.doubtful) for it in found.applications], [(None, None, 1)])
 
 
 class Recordings(ReportCase):

@@ -21,6 +21,7 @@ from typing import Any
 
 from .checkpoints import Name, NewFile
 from .damage import Damage, Span, records_of
+from .doubts import IDLE, TWICE, Packets, doubts
 from .errors import DisagreementError, ProgramError, SettingsError
 from .lines import (
     REPORT,
@@ -41,12 +42,11 @@ from .notes import settings_of
 from .programs import VERSION, program
 from .recording import Recording
 from .runs import Command, line_blocks, running
+from .settings import Settings
 from .source import BLOCK, Part, Source, refuse_to_overwrite
 from .summary import Summary
 
 MOST_LINES, MOST_OUTAGES = 200, 20  # that a page shows
-IDLE = 2047  # the application of idle packets, whose counts say nothing
-TWICE = 255  # frames that a gap misses if one was recorded twice
 DOUBTFUL = 8192  # from so many packets on a gap may be packets that came twice, or not in order
 
 
@@ -79,14 +79,16 @@ class RecordingPart:
 class FramePart:
     """Frames of all channels.
 
-    expected  good frames, and those that are missing by the master channel's counts
+    expected  good frames, and those that are missing by the master channel's counts; None where there are doubts
+    doubts    why these counts don't tell how many frames are missing; nothing where they do
     damaged   of the missing ones those whose records came; the others were `never_received`
     unplaced  bad records that aren't among these
     twice     gaps of 255 frames
     """
 
-    expected: int
+    expected: int | None
     percent: float | None
+    doubts: list[str]
     master: MasterCounts
     damaged: int
     never_received: int
@@ -107,11 +109,15 @@ class OctetPart:
 
 @dataclass(frozen=True)
 class ChannelPart:
-    """A channel: what the program counts, and the same as above of this channel.  `reasons` has the octets lost by each."""
+    """A channel: what the program counts, and the same as above of this channel.  `reasons` has the octets lost by each.
+
+    `is_wrapped` says whether its own count can't tell how many frames are missing, by the packets that are.
+    """
 
     counts: ChannelCounts
-    expected: int
+    expected: int | None
     percent: float | None
+    is_wrapped: bool
     damaged: Span
     never_received: Span
     twice: int
@@ -190,8 +196,8 @@ class Findings:
         return {name.rstrip("_"): value for name, value in asdict(self).items()}
 
 
-def percent(part: int, whole: int) -> float | None:
-    """Rounded down, so that 100 is all."""
+def percent(part: int, whole: int | None) -> float | None:
+    """Rounded down, so that 100 is all; None where the whole is nothing, or isn't known."""
     return part * 10000 // whole / 100 if whole else None
 
 
@@ -304,6 +310,8 @@ class Reading:
     ends: Ends
     losses: Losses
     svg: str
+    doubts: list[str]  # of the master channel's count
+    wrapped: set[int]  # the channels whose own counts miss too few frames for the packets that are missing
 
     def last(self) -> int:
         """The last record."""
@@ -339,7 +347,7 @@ def regular_file(given: Name) -> Iterator[str]:
             raise
 
 
-def read_recording(recording: Recording, summary: Summary, report: str) -> Reading:
+def read_recording(recording: Recording, settings: Settings, summary: Summary, report: str) -> Reading:
     """Runs the program over a recording, once and once more, so that nothing is kept of one run while the other is read.
 
     Its report goes to a file.
@@ -348,12 +356,15 @@ def read_recording(recording: Recording, summary: Summary, report: str) -> Readi
         records = records_of(line_blocks(runs, 0))
         runs.finish()
     with running(recording.source, recording.settings, Command(["packets", "--report", report]), progress=True) as runs:
-        ends = ends_of(line_blocks(runs, 0), summary.applications)
+        packets = Packets(summary, settings)
+        ends = ends_of(packets.watch(line_blocks(runs, 0)), summary.applications)
         runs.finish()
     losses, columns = Losses(), Columns(len(records))
     with open(report, encoding="ascii") as file:
         svg = draw(records, columns, read_report(Lines("the report", losses.watch(file)), records, columns), "What was lost")
-    return Reading(summary, Damage(records), ends, losses, svg)
+    damage = Damage(records)
+    found = doubts(damage, packets, settings.error_control)
+    return Reading(summary, damage, ends, losses, svg, found, packets.too_many_on(packets.shortest))
 
 
 def part_of(path: str, settings: Name) -> Part:
@@ -393,30 +404,34 @@ def recording_part(summary: Summary, name: str | None, part: Part, record_length
 
 def frame_part(reading: Reading) -> FramePart:
     counts, master, damaged = reading.summary.recording, reading.summary.master, reading.damage.of_master()
-    twice, expected = reading.damage.records.master_missing.count(TWICE), counts.good + master.missing
-    good = percent(counts.good, expected)
-    return FramePart(expected, good, master, damaged, master.missing - damaged, counts.bad - damaged, twice)
+    twice, expected = reading.damage.records.master_missing.count(TWICE), None if reading.doubts else counts.good + master.missing
+    good, never_received = percent(counts.good, expected), master.missing - damaged
+    return FramePart(expected, good, reading.doubts, master, damaged, never_received, counts.bad - damaged, twice)
 
 
-def octet_part(*channels: ChannelCounts) -> OctetPart:
+def octet_part(reading: Reading, *channels: ChannelCounts) -> OctetPart:
     data, octets, lost = (sum(getattr(it, key) for it in channels) for key in ("data", "octets", "lost"))
-    return OctetPart(data, octets, lost, percent(octets, data), all(it.data == it.octets + it.lost for it in channels))
+    share = percent(octets, None if reading.doubts else data)
+    return OctetPart(data, octets, lost, share, all(it.data == it.octets + it.lost for it in channels))
 
 
 def channel_parts(reading: Reading) -> Iterator[ChannelPart]:
     damage = reading.damage.of_channels()
     for channel, it in reading.summary.channels.items():
-        damaged, expected, twice = damage.get(channel, Span()), it.frames + it.missing, reading.losses.twice[channel]
+        damaged, twice = damage.get(channel, Span()), reading.losses.twice[channel]
+        is_wrapped = channel in reading.wrapped
+        expected = None if reading.doubts or is_wrapped or twice else it.frames + it.missing
         reasons = {loss.reason: loss.octets for loss in reading.summary.losses.values() if loss.channel == channel}
-        good = percent(it.frames, expected)
-        yield ChannelPart(it, expected, good, damaged, damaged.left_of(it.missing), twice, octet_part(it), reasons)
+        shares = expected, percent(it.frames, expected), is_wrapped
+        yield ChannelPart(it, *shares, damaged, damaged.left_of(it.missing), twice, octet_part(reading, it), reasons)
 
 
 def application_parts(reading: Reading) -> Iterator[ApplicationPart]:
     for key, it in reading.summary.applications.items():
-        expected = None if it.apid == IDLE else it.packets + it.missing
         first, last = reading.ends[key]
-        yield ApplicationPart(it, expected, percent(it.packets, expected or 0), first, last, reading.losses.doubtful[key])
+        doubtful = reading.losses.doubtful[key]
+        expected = None if it.apid == IDLE or doubtful or reading.doubts else it.packets + it.missing
+        yield ApplicationPart(it, expected, percent(it.packets, expected), first, last, doubtful)
 
 
 def outages_of(reading: Reading, times: Times) -> Iterator[Outage]:
@@ -452,7 +467,7 @@ def find(given: str, settings_file: str, asked: Asked) -> tuple[Findings, str]:
             times = ReceiptTimes(path, settings, asked.times, part.octets)
         kept = None if asked.report is None else files.enter_context(NewFile(asked.report)).file
         report = files.enter_context(tempfile.NamedTemporaryFile())
-        reading = read_recording(recording, summary, report.name)
+        reading = read_recording(recording, settings, summary, report.name)
         if isinstance(asked.times, Measured):
             times = MeasuredTimes(recording, asked.times, reading.shown())
         if kept is not None:
@@ -473,7 +488,7 @@ def findings_of(asked: Asked, recording: RecordingPart, settings: dict[str, Any]
         settings,
         versions(),
         frame_part(reading),
-        octet_part(*reading.summary.channels.values()),
+        octet_part(reading, *reading.summary.channels.values()),
         list(channel_parts(reading)),
         list(application_parts(reading)),
         list(outages_of(reading, times)),

@@ -10,7 +10,7 @@ from urllib.parse import quote
 
 from .damage import Span
 from .loss_map import counted, figure, spelled
-from .report import DOUBTFUL, Findings
+from .report import DOUBTFUL, ChannelPart, Findings
 
 NONE, STREAM = "–", "standard input"
 COLOURS = {"good": "#005f99", "amiss": "#c84400"}  # of a word that says yes or no
@@ -163,18 +163,28 @@ def in_short(found: Findings) -> Iterator[str]:
         why = ", ".join(f"{figure(number)} by {word}" for word, number in found.recording.faults.items())
         yield verdict(f"No frame is good, of {counted(counts.records, 'record')}{f': {why}' if why else ''}.", False)
         return
-    yield f"{frames.percent:.2f}% of the frames are good: {figure(counts.good)} of {figure(frames.expected)}."
-    parts = f"{figure(frames.damaged)} damaged, {figure(frames.never_received)} never received"
-    yield f"{figure(frames.master.missing)} missing: {parts}." if frames.master.missing else "None is missing."
+    share = f"{figure(octets.octets)} of {figure(octets.data)}"
+    if frames.percent is None or frames.expected is None:
+        yield f"{counted(counts.good, 'frame')} {'is' if counts.good == 1 else 'are'} good. {no_percentage(found)}"
+        yield f"{share} octets of good frames are in whole packets."
+    else:
+        yield f"{frames.percent:.2f}% of the frames are good: {figure(counts.good)} of {figure(frames.expected)}."
+        parts = f"{figure(frames.damaged)} damaged, {figure(frames.never_received)} never received"
+        yield f"{figure(frames.master.missing)} missing: {parts}." if frames.master.missing else "None is missing."
     if octets.percent is not None:
-        share = f"{figure(octets.octets)} of {figure(octets.data)}"
         yield f"{octets.percent:.2f}% of the octets of good frames are in whole packets: {share}."
     yield verdict(f"They {'add' if octets.adds_up else 'do NOT add'} up: data = in packets + lost.", octets.adds_up)
 
 
+def no_percentage(found: Findings) -> str:
+    """Why there is no percentage; nothing where there is one."""
+    why = "; ".join(found.frames.doubts)
+    return f"The counts don't tell how many frames are missing, so there is no percentage: {why}." if why else ""
+
+
 def frames_section(found: Findings) -> Markup:
     frames, counts = found.frames, found.recording.counts
-    rows: list[tuple[str, int, float | None]] = [
+    rows: list[tuple[str, int | None, float | None]] = [
         ("Good", counts.good, frames.percent),
         ("Damaged", frames.damaged, None),
         ("Never received", frames.never_received, None),
@@ -184,7 +194,7 @@ def frames_section(found: Findings) -> Markup:
         ("Bad records without room in a gap", frames.unplaced, None),
         ("Gaps of the master channel", frames.master.gaps, None),
     ]
-    notes = [UNPLACED if frames.unplaced else "", twice_text("the master channel", frames.twice)]
+    notes = [no_percentage(found), UNPLACED if frames.unplaced else "", twice_text("the master channel", frames.twice)]
     return section("Frames", table(("Frames", "Number", "Of expected"), rows), FRAMES, *notes)
 
 
@@ -200,8 +210,14 @@ def channels_section(found: Findings) -> Markup:
         rows[-1] += [it.damaged, it.never_received, it.counts.gaps, it.counts.idle, it.counts.vca]
     if not rows:
         return section("Channels: frames", NO_CHANNEL)
-    notes = [twice_text(f"channel {it.counts.channel}", it.twice) for it in found.channels]
+    notes = [twice_text(f"channel {it.counts.channel}", it.twice) or wrapped_text(it) for it in found.channels]
     return section("Channels: frames", table(head, rows), CHANNELS, *notes)
+
+
+def wrapped_text(channel: ChannelPart) -> str:
+    """Why a channel has no percentage, where the packets that its applications miss say so."""
+    why = "the packets that its sequence counts miss have more octets than its missing frames and lost parts"
+    return f"Channel {channel.counts.channel} has no percentage: {why}." if channel.is_wrapped else ""
 
 
 def octets_section(found: Findings) -> Markup:

@@ -23,6 +23,16 @@ def stream_of(records: list[bytes]) -> bytes:
     return b"".join(MARKER + it for it in records)
 
 
+def bits_of(octets: bytes) -> str:
+    return "".join(f"{it:08b}" for it in octets)
+
+
+def octets_of(bits: str) -> bytes:
+    """The octets of these bits, the last of which is filled by ones."""
+    bits += "1" * (-len(bits) % 8)
+    return bytes(int(bits[at : at + 8], 2) for at in range(0, len(bits), 8))
+
+
 class Cut(TestCase):
     def found(self, stream: bytes, length: int, strict: bool = True, **how) -> tuple[list[bytes], list[tuple[int, int, int]], int]:
         cut = tmx.cut(io.BytesIO(stream), MARKER, length, strict=strict, **how)
@@ -120,6 +130,57 @@ class Cut(TestCase):
         ):
             status, lines = command("cut", *words.split())
             self.assertEqual((status, lines.splitlines()[-1]), (2, f"python3 -m tmx cut: error: {said}"))
+
+    def cut(self, stream: bytes, *words: str) -> tuple[int, bytes, list[str]]:
+        """What the command gives of a stream with records of 100 octets: its status, the records, and what it says but slips."""
+        Path("raw").write_bytes(stream)
+        status, said = command("cut", "--length", "100", *words, "raw", out="cut.rec")
+        return status, Path("cut.rec").read_bytes(), [it for it in said.splitlines() if not it.startswith("slip ")]
+
+    def test_bits_that_are_inverted_or_shifted(self) -> None:
+        """What is advised makes a stream whose records are those that were sent.  Each begins as frames do, all alike."""
+        records = [bytes.fromhex("02a6") + it for it in records_of(30, 98, 12)]
+        stream = bits_of(stream_of(records))
+        for shift, inverted, says in (
+            (0, True, "with all bits inverted: invert all bits first"),
+            (1, False, "1 bit after the beginning of an octet: leave out the first 1 bit first"),
+            (5, False, "5 bits after the beginning of an octet: leave out the first 5 bits first"),
+            (3, True, "with all bits inverted 3 bits after the beginning of an octet: invert all bits and leave out the first 3 bits first"),
+        ):
+            for words in ((), ("--marker", "1acffc1e")):
+                sent = "1" * shift + (stream.translate({48: "1", 49: "0"}) if inverted else stream)
+                status, cut, said = self.cut(octets_of(sent), *words)
+                self.assertEqual((status, cut, said[-1]), (1, b"", f"tmx cut: no record: the marker 1ACFFC1D is there {says}"))
+                mended = (sent.translate({48: "1", 49: "0"}) if inverted else sent)[shift:]
+                self.assertEqual(self.cut(octets_of(mended))[:2], (0, b"".join(records)))
+
+    def test_a_stream_of_which_a_large_part_is_not_cut(self) -> None:
+        records = records_of(20, 100, 13)
+        stream, whole = stream_of(records), b"".join(records)
+        shifted = octets_of("1" + bits_of(stream))  # 2,081 octets
+        says = "tmx cut: {} of {} octets are in no record, in stretches into which a record with its marker fits"
+        for octets, uncut in (
+            (stream + shifted, 2081),
+            (shifted + stream, 2081),
+            (stream[:1040] + shifted + stream[1040:], 2081),
+            (stream[:1040] + bytes(103) + stream[1040:], 0),
+            (stream[:1040] + bytes(150) + stream[1040:], 150),
+            (bytes(103) + stream + stream[:103], 0),
+            (bytes(104) + stream + stream[:103], 104),
+            (stream + bytes(103), 0),
+            (stream + bytes(150), 150),
+        ):
+            for words in ((), ("--strict-markers",)):
+                status, cut, said = self.cut(octets, *words)
+                self.assertEqual((status, said[1:]), (1, [says.format(uncut, len(octets))]) if uncut else (0, []))
+                if not words:
+                    self.assertEqual(cut.replace(whole, b""), b"")
+        steps = [stream[at : at + 104] for at in range(0, 2080, 104)] * 9
+        slipping = b"".join(steps[:2]) + b"".join(b"x" + it for it in steps[2:])  # 178 octets more, one by one
+        self.assertEqual(self.cut(slipping), (0, whole * 9, ["cut records=180 slips=178 left=178"]))
+        # Strictly the first and the last are records, and what is between them is less the record before the slip.
+        said = ["cut records=2 slips=1 left=18690", says.format(18586, 18898)]
+        self.assertEqual(self.cut(slipping, "--strict-markers"), (1, records[0] + records[-1], said))
 
     def test_damaged_markers(self) -> None:
         records, step = records_of(30, 100, 5), 104

@@ -197,7 +197,7 @@ class Commands(TestCase):
         self.assertEqual((status, said), (1, "tmx watch: standard output: Bad file descriptor\n"))
         example().extract("wanted")
         self.assertEqual(Path("packets").read_bytes(), Path("wanted").read_bytes())
-        Path("raw").write_bytes(b"".join(b"x\x1a\xcf\xfc\x1d" + octets[at : at + 256] for at in range(0, len(octets), 256)))
+        Path("raw").write_bytes(b"x" + b"".join(b"\x1a\xcf\xfc\x1d" + octets[at : at + 256] for at in range(0, len(octets), 256)))
         wanted = b"".join(tmx.cut("raw", length=256))
         self.assertEqual(self.closed("2>&-", "cut", "--length", 256, "raw")[0], 0)
         self.assertEqual((Path("out").read_bytes(), bool(wanted)), (wanted, True))

@@ -15,8 +15,8 @@ from .errors import Error, ProgramError
 from .following import OUTPUTS, Wanted, done_in, losses, next_step, steps
 from .loss_map import drawing, lines_of_file
 from .loss_times import times_wanted
-from .markers import Cut, cut
-from .probing import probe, repeated_marker
+from .markers import Cut, cut, hidden
+from .probing import USUAL_MARKER, probe, repeated_marker
 from .recording import Recording
 from .report import Asked, find
 from .report_page import page
@@ -136,10 +136,14 @@ def probe_recording(words: argparse.Namespace, parser: argparse.ArgumentParser) 
 
 
 class NothingFoundError(Error):
-    """No settings fit a recording, or no record is placed in a stream."""
+    """No settings fit a recording, or no record is placed in a stream, or in a large part of it."""
 
 
 def cut_words(parser: argparse.ArgumentParser) -> None:
+    parser.epilog = (
+        "Where a stretch is in no record, between two records, before the first or after the last, and a record with its marker fits "
+        "into it, the last line says so, and the status is 1. All records are written nevertheless."
+    )
     parser.add_argument("--marker", default="1ACFFC1D", metavar="HEX", help="the sync marker (1ACFFC1D)")
     parser.add_argument("--length", required=True, type=int, metavar="N", help="the octets behind each marker")
     parser.add_argument("--flips", default=0, type=int, metavar="N", help="how many bits of a marker may be wrong (0)")
@@ -166,13 +170,20 @@ def cut_stream(words: argparse.Namespace, parser: argparse.ArgumentParser) -> No
     print(f"cut records={found.records} slips={len(found.slips)} left={found.left_out}", file=sys.stderr)
     if not found.records:
         raise NothingFoundError(f"no record: {apart(found)}")
+    if found.uncut:
+        part = f"{found.uncut} of {found.window.end} octets"
+        raise NothingFoundError(f"{part} are in no record, in stretches into which a record with its marker fits")
 
 
 def apart(found: Cut) -> str:
     """What the markers of a stream without a record say."""
     if found.distance is not None:
         return f"most markers are {found.distance} octets apart: try --length {found.distance - len(found.marker)}"
-    again = repeated_marker(found.window.beginning())
+    beginning = found.window.beginning()
+    for marker in (found.marker, USUAL_MARKER):
+        if mend := hidden(marker, beginning):
+            return mend
+    again = repeated_marker(beginning)
     if again is None:
         return "no two markers are there"
     marker, distance = again

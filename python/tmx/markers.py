@@ -77,6 +77,8 @@ class Cut:
     records   how many records were found so far
     slips     the stretches with a slip so far
     left_out  how many octets of no record there were so far; those of a record that is cut off at the end are among them
+    uncut     how many of these are in stretches that are as long as a record with its marker, or longer; the record before a slip,
+              which `strict` leaves out, isn't counted
     distance  how many octets most markers are apart, where no record was placed and that can be told; else None
 
     A record is the octets behind a marker.  It is placed where a marker stands before it, and one stands behind it too or the
@@ -96,7 +98,7 @@ class Cut:
         self.step = len(marker) + length
         self.distances: Counter[int] = Counter()
         self.records = 0
-        self.left_out = 0
+        self.left_out = self.uncut = 0
         self.slips: list[Slip] = []
         self.window = Window(source)
         self.at = 0  # where the next record is looked for
@@ -158,7 +160,7 @@ class Cut:
                 if not placed:
                     self.at = self.next_marker(window, at, at + 1)
                 window.forget(self.at)
-            self.left_out += window.end - self.at
+            self.leave_out(window.end - self.at, 0)
         finally:
             self.source.close()
 
@@ -206,7 +208,7 @@ class Cut:
 
     def next_marker(self, window: Window, at: int, begin: int) -> int:
         """The next marker from a place on whose record is one.  Octets before it are of no record, but those of one that begins at `at`."""
-        given = self.step if begin > at and self.stands_alone(window, at) else 0
+        alone = self.step if begin > at and self.records and window.octets.startswith(self.marker, at - window.begin) else 0
         place = before = self.search(window, begin)
         while place < window.end and not self.placed(window, place) and not self.stands_alone(window, place):
             place = self.search(window, place + 1)
@@ -216,8 +218,13 @@ class Cut:
             half = self.step // 2
             shift = (place - at + half) % self.step - half if self.records else 0
             self.slips.append(Slip(at, place - at, shift))
-        self.left_out += max(0, place - at - given)
+        self.leave_out(place - at, alone)
         return place
+
+    def leave_out(self, octets: int, alone: int) -> None:
+        """Counts octets between two records, at the beginning or at the end.  So many are of the record before a slip."""
+        self.left_out += max(0, octets if self.strict else octets - alone)
+        self.uncut += octets - alone if octets - alone >= self.step else 0
 
     def measure(self, distance: int) -> None:
         """Takes note of the distance of two markers, while no record is placed."""
@@ -247,6 +254,24 @@ class Cut:
             if (last ^ self.pattern).bit_count() <= self.flips:
                 return place
         return -1
+
+
+def hidden(marker: bytes, octets: bytes) -> str | None:
+    """What to do with a stream in which a marker of four octets or more comes again, but inverted, or not where an octet begins.
+
+    None where it doesn't.
+    """
+    number, inverted = int.from_bytes(octets, "big"), bytes(it ^ 255 for it in marker)
+    for shift in range(8 if len(marker) >= 4 else 0):
+        shifted = (number << shift).to_bytes(len(octets) + 1, "big")
+        for wanted in (marker, inverted):
+            if (shift or wanted is inverted) and shifted.count(wanted) > 1:
+                where = f" {shift} bit{'s' * (shift > 1)} after the beginning of an octet" if shift else ""
+                how, invert = (" with all bits inverted", "invert all bits") if wanted is inverted else ("", "")
+                begin = f"leave out the first {shift} bit{'s' * (shift > 1)}" if shift else ""
+                mend = " and ".join(filter(None, (invert, begin)))
+                return f"the marker {marker.hex().upper()} is there{how}{where}: {mend} first"
+    return None
 
 
 def pseudo_random(length: int) -> bytes:

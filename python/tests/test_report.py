@@ -409,11 +409,58 @@ class Doubts(ReportCase):
         self.assertIn(said, shown.text())
         self.assertEqual([it.percent for it in found.applications], [100.0, 0.77])  # 4 packets of 516
 
+    def test_damaged_frames_of_a_channel(self) -> None:
+        """Of channel 0 225 frames were lost and 25 damaged, of channel 1 20 lost: 270, of which the master channel shows 14."""
+        ends = [(0, GOOD), (1, GOOD)]
+        found, shown = self.find(made([*ends, *[(0, LOST)] * 225, *[(1, LOST)] * 20, *[(0, DAMAGED)] * 25, *ends]))
+        self.assertEqual([(it.damaged, it.never_received) for it in found.channels], [(Span(0, 25), Span(225, 250)), (Span(0, 20), Span(0, 20))])
+        self.assertEqual(shown.tables["Channels: frames"][2][5:7], ["0 to 20"] * 2)
+
     def test_packets_that_came_twice(self) -> None:
         """16,383 packets would be missing.  An application's percentage is given where its gaps are shorter than 8,192."""
         octets = made([(0, GOOD)] * 5)
         found, shown = self.find(octets[:96] + octets[64:])
         self.assertEqual([(it.expected, it.percent, it.doubtful) for it in found.applications], [(None, None, 1)])
+
+
+class Sentences(ReportCase):
+    def test_data_of_good_frames(self) -> None:
+        """Two frames of packets have 24 octets each; that of a VCA_SDU and those of channels that aren't chosen have no such data."""
+        whole = made(plan_of("0 1 0 0"))
+        head = whole[96:100] + b"\x58\x00" + whole[102:126]  # the same frame, with a VCA_SDU
+        octets = whole[:96] + head + binascii.crc_hqx(head, 0xFFFF).to_bytes(2, "big")
+        said = self.find(octets)[1].text()
+        self.assertIn("100.00% of the data of good frames is in whole packets: 72 of 72 octets.", said)
+        self.assertIn("those of idle frames and of frames with a VCA_SDU left out", said)
+        said = self.find(octets, f"{HERE}channels = [0]\n")[1].text()
+        self.assertIn("100.00% of the data of good frames of the chosen channels is in whole packets: 48 of 48 octets.", said)
+
+    def test_a_loss_that_nothing_shows(self) -> None:
+        """256 frames without packets are lost: of idle data alone, by the pointer 2046."""
+        idle = []
+        for count in (0, 1, 258, 259):
+            head = bytes([0x02, 0xA0, count % 256, count % 256, 0x1F, 0xFE]) + bytes(24)
+            idle.append(head + binascii.crc_hqx(head, 0xFFFF).to_bytes(2, "big"))
+        said = self.find(b"".join(idle))[1].text()
+        self.assertIn("The counts miss none.", said)
+        self.assertIn("It has no line: no record is bad, no octet was dropped, and no count has a gap.", said)
+
+    def test_an_application_on_several_channels(self) -> None:
+        said = "If its counts run over all of them, packets of the others seem to be missing."
+        self.assertIn(said, self.find(made([(it % 2, GOOD) for it in range(9)], True))[1].text())
+        self.assertNotIn(said, self.find(made([(0, GOOD)] * 9, True))[1].text())
+
+    def test_an_outage_of_255(self) -> None:
+        octets = made([(0, GOOD)] * 5)
+        said = self.find(octets[:96] + octets[64:])[1].text()
+        self.assertIn("In 1 gap of these 255 frames are missing: perhaps a frame was recorded twice.", said)
+
+    def test_whole_groups(self) -> None:
+        head = bytes([0x02, 0xA0, 0, 0, 0x18, 0]) + b"".join(bytes.fromhex(f"0064 {it}000 0005") + bytes(6) for it in "48")
+        head = head[:20] + b"\x80\x01" + head[22:]  # the last segment is the next one
+        found, shown = self.find(head + binascii.crc_hqx(head, 0xFFFF).to_bytes(2, "big"))
+        self.assertEqual([line for _, line in found.report.first], ["group record=0 channel=0 apid=100 first=0 last=1"])
+        self.assertIn("What is bad or lost, and each whole group, record by record", shown.text())
 
 
 class Recordings(ReportCase):
@@ -437,7 +484,7 @@ class Recordings(ReportCase):
 
     def test_nothing_is_lost(self) -> None:
         _, shown = self.find(made(plan_of("0 1 0 1")))
-        for said in ("None is missing.", "No channel has a gap.", "It has no line: nothing is bad, and nothing was lost."):
+        for said in ("The counts miss none.", "No channel has a gap.", "It has no line: no record is bad, no octet was dropped, and no count has a gap."):
             self.assertIn(said, shown.text())
 
     def test_streams(self) -> None:

@@ -55,9 +55,12 @@ def suspects_of(records: Records, channel: int) -> Iterator[int]:
 class Damage:
     """Missing frames, by the counts of the good frames around bad records.
 
-    placed  of each good record how many of the bad ones right before it have room in the gap of the master channel there
-    shared  of each bad record of how many channels it may be
+    placed     of each good record how many of the bad ones right before it have room in the gap of the master channel there
+    shared     of each bad record of how many channels it may be
+    has_doubts whether the master channel's count doesn't tell how many frames are missing
     """
+
+    has_doubts = False
 
     def __init__(self, records: Records) -> None:
         self.records = records
@@ -81,11 +84,13 @@ class Damage:
         """How many of the frames were damaged that are missing before this one, of the same channel.
 
         At most so many as bad records lie between.  At least those of them that can be of no other channel that has a good frame,
-        and as many as are missing beyond all frames, of any channel, that were never received meanwhile.
+        and, without doubts, as many as are missing beyond all frames, of any channel, that were never received meanwhile.
         """
         begin, missing = self.before(record) + 1, self.records.missing[record]
         most = min(missing, self.records.channels.count(NO_CHANNEL, begin, record))
         least = min(missing, self.shared.count(1, begin, record))
+        if self.has_doubts:
+            return Span(least, most)
         never_received = sum(self.records.master_missing[begin : record + 1]) - sum(self.placed[begin : record + 1])
         beyond = missing - never_received
         return Span(max(least, beyond) if beyond <= most else least, most)  # beyond that, the master channel's count has wrapped

@@ -364,6 +364,7 @@ def read_recording(recording: Recording, settings: Settings, summary: Summary, r
         svg = draw(records, columns, read_report(Lines("the report", losses.watch(file)), records, columns), "What was lost")
     damage = Damage(records)
     found = doubts(damage, packets, settings.error_control)
+    damage.has_doubts = bool(found)
     return Reading(summary, damage, ends, losses, svg, found, packets.too_many_on(packets.shortest))
 
 

@@ -5,10 +5,12 @@ The texts say what each number means.  All that comes from files or words is esc
 
 import os
 import shlex
+from collections import Counter
 from collections.abc import Iterable, Iterator, Sequence
 from urllib.parse import quote
 
 from .damage import Span
+from .doubts import IDLE, TWICE
 from .loss_map import counted, figure, spelled
 from .report import DOUBTFUL, ChannelPart, Findings
 
@@ -48,11 +50,13 @@ they may be. At most, they are the bad records in its gaps. At least, they are t
 and what is missing beyond all frames that were never received meanwhile. A bad record can be a channel's if it lies in its
 gap, before its first good frame or behind its last. Idle frames have idle data alone, VCA frames a VCA_SDU."""
 OCTETS = """Data are the octets in the data fields of good frames, those of idle frames and of frames with a VCA_SDU left
-out. Each of them is in a whole packet, or lost, since its packet isn't whole: data = in packets + lost. The octets of
-missing frames are in none of these numbers."""
+out. Each of them is in a whole packet, or lost by one of the reasons: data = in packets + lost. The octets of missing
+frames are in none of these numbers."""
 APPLICATIONS = """Expected are the packets that came whole, and those that the sequence counts miss, modulo 16,384. Those of
 idle packets, application 2047, say nothing. A record is the one that completes the packet. Groups are data in several
 packets: whole ones, broken ones, and strays, packets that are in none."""
+SHARED = """An application that comes on several channels is counted on each of them alone. If its counts run over all of
+them, packets of the others seem to be missing."""
 OUTAGES = """A gap of a channel's counts, from its last good frame before to its first one behind, those with most missing
 frames first. A longer gap shows its frames modulo 256. Lost octets are those of packets that the gap has cut, before and
 behind it."""
@@ -68,7 +72,8 @@ REASONS = {
 ABSENT = {"channels": "all", "max_packet": "65542"}  # settings that aren't given
 VERSIONS = {"logic": "sum of the logic that proved tmx", "package": "package for Python", "python": "Python"}
 NO_CHANNEL = "No chosen channel has a good frame."
-LINES = "What is bad or lost, record by record, in the program's words, which docs/FORMATS.md of tmx explains."
+LINES = """What is bad or lost, and each whole group, record by record, in the program's words, which docs/FORMATS.md of tmx
+explains."""
 
 
 class Markup(str):
@@ -164,15 +169,16 @@ def in_short(found: Findings) -> Iterator[str]:
         yield verdict(f"No frame is good, of {counted(counts.records, 'record')}{f': {why}' if why else ''}.", False)
         return
     share = f"{figure(octets.octets)} of {figure(octets.data)}"
+    data = f"the data of good frames{' of the chosen channels' if found.settings['channels'] else ''}"
     if frames.percent is None or frames.expected is None:
         yield f"{counted(counts.good, 'frame')} {'is' if counts.good == 1 else 'are'} good. {no_percentage(found)}"
-        yield f"{share} octets of good frames are in whole packets."
+        yield f"Of {data} {share} octets are in whole packets."
     else:
         yield f"{frames.percent:.2f}% of the frames are good: {figure(counts.good)} of {figure(frames.expected)}."
         parts = f"{figure(frames.damaged)} damaged, {figure(frames.never_received)} never received"
-        yield f"{figure(frames.master.missing)} missing: {parts}." if frames.master.missing else "None is missing."
+        yield f"{figure(frames.master.missing)} missing: {parts}." if frames.master.missing else "The counts miss none."
     if octets.percent is not None:
-        yield f"{octets.percent:.2f}% of the octets of good frames are in whole packets: {share}."
+        yield f"{octets.percent:.2f}% of {data} is in whole packets: {share} octets."
     yield verdict(f"They {'add' if octets.adds_up else 'do NOT add'} up: data = in packets + lost.", octets.adds_up)
 
 
@@ -249,6 +255,8 @@ def applications_section(found: Findings) -> Markup:
         if it.doubtful:
             gaps = f"In {counted(it.doubtful, 'gap')} of application {counts.apid} on channel {counts.channel}"
             notes.append(f"{gaps} {figure(DOUBTFUL)} packets or more are missing: perhaps packets came twice, or not in order.")
+    gapped = Counter(it.counts.apid for it in found.applications if it.counts.missing and it.counts.apid != IDLE)
+    notes += [SHARED] if max(gapped.values(), default=0) > 1 else []
     if not rows:
         return section("Applications", "No packet came whole.")
     return section("Applications", table(head, rows), APPLICATIONS, *notes)
@@ -269,14 +277,15 @@ def outages_section(found: Findings) -> Markup:
         return section("The longest outages", "No channel has a gap.")
     head += ["From (UTC)", "To (UTC)"] if found.times else []
     said = f"{figure(len(rows))} of {counted(sum(it.counts.gaps for it in found.channels), 'gap')}."
-    return section("The longest outages", table(head, rows), f"{said} {OUTAGES}")
+    twice = twice_text("these", sum(it.missing == TWICE for it in found.outages))
+    return section("The longest outages", table(head, rows), f"{said} {OUTAGES}", twice)
 
 
 def lines_section(found: Findings) -> Markup:
     report, times = found.report, found.times is not None
     rows = [[*([stamp(time)] if times else []), element("code", line)] for time, line in report.first]
     if not rows:
-        return section("The report", "It has no line: nothing is bad, and nothing was lost.")
+        return section("The report", "It has no line: no record is bad, no octet was dropped, and no count has a gap.")
     said = spelled(f"{LINES} Here are {figure(len(rows))} of {counted(report.lines, 'line')}.")
     words = element("p", joined([said, whole_report(found)], " "))
     return section("The report", words, table([*(["UTC"] if times else []), "Line"], rows))

@@ -3,6 +3,7 @@
 import contextlib
 import copy
 import io
+import json
 import os
 import pickle
 import signal
@@ -296,6 +297,15 @@ class Streams(TestCase):
         writer.start()
         self.assertEqual(list(tmx.Recording("pipe", SETTINGS).packets()), list(example().packets()))
         writer.join()
+
+    def test_names_of_descriptors(self) -> None:
+        """The program has other descriptors: its standard input is empty."""
+        with open(RECORDING, "rb") as file:
+            for name in (f"/dev/fd/{file.fileno()}", f"/proc/self/fd/{file.fileno()}"):
+                self.assertEqual(tmx.Recording(name, SETTINGS).summary().recording.records, 300)
+            line = [sys.executable, "-m", "tmx", "report", "--json", "--settings", SETTINGS, "/dev/stdin"]
+            ran = subprocess.run(line, stdin=file, capture_output=True, check=True, env=os.environ | {"PYTHONPATH": str(PACKAGE)})
+        self.assertEqual(json.loads(ran.stdout)["recording"]["counts"]["records"], 300)
 
     def test_a_pipe_is_read_once(self) -> None:
         read, written = os.pipe()

@@ -3,6 +3,7 @@
 import errno
 import io
 import os
+import re
 import stat
 import sys
 from contextlib import suppress
@@ -11,6 +12,7 @@ from typing import Any, Protocol
 from .errors import ConsumedError, DisagreementError, FileError
 
 BLOCK = 1 << 17  # octets that are fed at once
+OWN = re.compile("/dev/(stdin|fd/[0-9]+)|/proc/(self|thread-self|[0-9]+)/fd/[0-9]+")  # names that mean another file to the program
 
 
 class Stream(Protocol):
@@ -52,7 +54,8 @@ class Source:
     """A file by its name, or a binary stream.  Raises TypeError where it is neither.
 
     path    the name of a file; each run of the program reads from it what it needs. None for a stream
-    stream  the stream, while a run reads it; None for a file.  What is named and is no file, as a pipe, is a stream too
+    stream  the stream, while a run reads it; None for a file.  What is named and is no file, as a pipe, is a stream too, and
+            so is a file by the name of a descriptor, as /dev/stdin, which the program doesn't have
     """
 
     def __init__(self, recording: str | os.PathLike[str] | Stream) -> None:
@@ -93,7 +96,9 @@ class Source:
     def is_stream(self) -> bool:
         """Whether it has to be fed: where the octets that one program reads are lost for another."""
         path = self.path
-        return path is None or os.path.exists(path) and not os.path.isdir(path) and not stat.S_ISREG(os.stat(path).st_mode)
+        if path is None or not os.path.exists(path) or os.path.isdir(path):
+            return path is None
+        return OWN.fullmatch(path) is not None or not stat.S_ISREG(os.stat(path).st_mode)
 
     def part(self) -> Part | None:
         """The octets that a file has now, by its name; None of a stream, and where it can't be opened: the program says why."""

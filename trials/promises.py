@@ -60,8 +60,8 @@ HEAD = """# What guards each promise
 
 - **Clauses** are the functions that carry a promise, also private ones, from [clauses.txt](../trials/clauses.txt). In
   brackets stand those of their clauses that do. A function without brackets stands for all its clauses.
-- **Planted bugs** are edits `NAME.edit` in the `must-fail/` of a crate. The gate applies each, and the prover has to
-  refuse it.
+- **Planted bugs** are edits `NAME.edit` in the `bugs/` and the `must-fail/` of a crate. The gate applies each, and the
+  prover has to refuse it.
 - **Tests**, **worked examples** and [**trials**](../trials/README.md) of the built program stand in the linked files.
 
 A crate stands before a name, as in `tm_c/lines_as_octets`, unless the section's heading names it first. Most guards
@@ -79,7 +79,7 @@ TABLES = (
 
 # Where guards stand: the files of each kind, and what has their comments in front of their name or behind it.
 GUARDS = (
-    ("Planted bugs", "crates/*/must-fail/*.edit", r"\A(?P<guards>(?:# guards: .*\n)*)"),
+    ("Planted bugs", "crates/*/*/*.edit", r"\A(?P<guards>(?:# guards: .*\n)*)"),
     ("Tests", "crates/*/src/*.rt", r"^#\[test\]\n(?:#\[.*\n)*fn (?P<name>\w+)\(.*\{\n(?P<guards>(?: +// guards: .*\n)*)"),
     ("Worked examples", "crates/*/proofs/**/*.antt", r"(?P<guards>(?:^-- guards: .*\n)+)(?P<name>\S+) "),
     ("Trials", "trials/groups/*.sh", r"^(?P<name>\w+)\(\) \{\n(?P<guards>(?: +# guards: .*\n)+)"),
@@ -270,9 +270,9 @@ def groups_of_trials():
 
 
 def guards_in_tree():
-    """All that may guard a promise."""
+    """All that may guard a promise. The planted bugs of a crate come by their names, in whichever folder they are."""
     for kind, pattern, form in GUARDS:
-        for path in sorted(ROOT.glob(pattern)):
+        for path in sorted(ROOT.glob(pattern), key=lambda it: str(it).replace("/bugs/", "/must-fail/")):
             for found in re.finditer(form, read(path), re.M):
                 yield Guard(kind, path, found.groupdict().get("name", path.stem), GUARDING.findall(found["guards"]))
 

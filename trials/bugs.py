@@ -1,0 +1,546 @@
+#!/usr/bin/env python3
+"""Tries planted bugs in batches: the prover has to refuse each at a goal of the function in which the bug is planted.
+
+    trials/bugs.py             tries those of each crate that has changed since all of its bugs were refused
+    trials/bugs.py --all       tries all
+    trials/bugs.py CRATE..     tries those of these crates
+
+A bug is an edit crates/CRATE/bugs/NAME.edit, in the form of `rt help`: a line `file: PATH`, and then pairs of lines `old: TEXT` and `new: TEXT`.
+Each TEXT is one line, and the old one is in the file once. Later pairs change what the earlier ones made. What `rt ci` tries is in must-fail/.
+
+Bugs of different functions are planted at once, and one check of these functions judges them all. Its notes name each goal that is open, by
+its place. A bug is refused only where a goal of its own function is open, or where an answer in its own function's proof fails. Else it is
+NOT REFUSED, whatever else fails. A bug in a constant is one of the functions that name the constant. One that changes an item, such as a
+struct, is tried alone. BAD EDIT is one that can't be applied or read, or that changes a contract. NOT TRIED is one for which the prover gave
+no verdict. All three fail.
+
+The work tree isn't touched: all is done in a temporary folder, which TMPDIR chooses. The libraries below are those that `rt ci` proved from the
+same files on this machine, or else it proves them first. With --built they are those that `rt lib` keeps in out/. A crate whose bugs were all
+refused gets a line in trials/refused.txt: the day, and a sum of all that its check reads. A crate that still has that sum isn't tried again.
+
+It prints a line for each bug, and last `N passed, N failed, N skipped`. Its status is 0 if none failed."""
+
+from __future__ import annotations
+
+import argparse
+import concurrent.futures
+import datetime
+import hashlib
+import os
+import pathlib
+import re
+import shutil
+import signal
+import subprocess
+import sys
+import tempfile
+import threading
+import time
+from collections.abc import Iterable, Iterator
+from dataclasses import dataclass, field
+
+ROOT = pathlib.Path(__file__).resolve().parent.parent
+CRATES = ROOT / "crates"
+RECORD = ROOT / "trials" / "refused.txt"
+
+# How bugs are judged. Another number has all of them tried again.
+JUDGED = 1
+
+# What a check reads of a crate, and what of those files no other crate can name.
+PARTS = ("src", "specs", "proofs")
+OWN_PROOFS = ("Answers.antt", "Invariants.antt", "Proof.antt")
+
+# What one check takes of memory, mostly.
+MEMORY = 3 << 30
+
+REFUSED, MISSED, BAD, UNTRIED = "refused", "NOT REFUSED", "BAD EDIT", "NOT TRIED"
+
+HEAD = re.compile(r"( *)(?:pub(?:\([\w:]+\))? )?(?:(?:const|unsafe|extern \"C\") )*fn (\w+)")
+CONSTANT = re.compile(r"( *)(?:pub(?:\([\w:]+\))? )?(?:const|static) (\w+): ")
+BLOCK = re.compile(r"(?:pub(?:\([\w:]+\))? )?(impl|trait)\b(<.*?>(?= ))? ?(?:(.*?)(?:<.*>)? for )?(?:&(?:'\w+ )?(?:mut )?)?(\w+)")
+
+OPEN_GOAL = re.compile(r"note: (src/\S+?):(\d+):\d+: (?:it is not proved that )?(.*\(`[^`]+`\).*)")
+FAILED_ANSWER = re.compile(r"(?:\./)?(proofs/\S+)/\w+\.antt:\d+:\d+: error: .*")
+UNREAD = re.compile(r"(?:\./)?(src/\S+?):(\d+):\d+: error\b.*")
+VERDICT = re.compile(r"fn (\S+): (proved|not proved|no proof|could not tell)")
+
+
+class Unusable(Exception):
+    """Why an edit can't be applied."""
+
+
+@dataclass(frozen=True)
+class Place:
+    """A function or a constant of a file: its name as rattle has it, its lines, and the first line of its body."""
+
+    file: str
+    name: str
+    first: int
+    body: int
+    last: int
+    is_function: bool
+
+    @property
+    def proofs(self) -> str:
+        """The folder of a function's own proof files."""
+        return "proofs/" + self.name.replace("::", "/")
+
+
+@dataclass
+class Bug:
+    """A planted bug: its lines by their file and number, the functions that it is planted in, and what came of it."""
+
+    crate: str
+    name: str
+    lines: dict[tuple[str, int], str]
+    owners: list[Place]
+    is_alone: bool
+    outcome: str = ""
+    why: str = ""
+
+    def __str__(self) -> str:
+        return f"{'ok   ' if self.outcome == REFUSED else 'FAILED: '}{self.crate}/{self.name}: {self.outcome}{': ' if self.why else ''}{self.why}"
+
+
+@dataclass
+class Said:
+    """What a check said: its status, its lines, and the functions' verdicts."""
+
+    status: int
+    lines: list[str]
+    verdicts: dict[str, str] = field(default_factory=dict)
+
+    def __post_init__(self) -> None:
+        self.verdicts = {found[1]: found[2] for found in map(VERDICT.match, self.lines) if found}
+
+    @property
+    def judges(self) -> bool:
+        """Whether the prover has come to its end."""
+        return self.status in (0, 1) and bool(self.lines) and self.lines[-1].startswith("only=")
+
+
+def read(path: pathlib.Path) -> str:
+    return path.read_text(encoding="utf-8")
+
+
+# The functions of a file.
+
+
+def owner_of(line: str) -> str:
+    """What stands before the names of the functions of an `impl` or a `trait`, by its first line."""
+    found = BLOCK.match(line)
+    if not found:
+        return ""
+    _, generics, trait, name = found.groups()
+    is_any = trait and re.search(rf"\b{name}\b", generics or "")
+    return f"{'Any' if is_any else name}{(trait or '').rpartition('::')[2]}::"
+
+
+def end_of(lines: list[str], first: int, indent: str) -> int:
+    """The last line of what begins at a line, by the layout of `rt fmt`: the next one that is indented no more and ends it."""
+    for number in range(first, len(lines)):
+        line = lines[number]
+        if line.startswith(indent) and line[len(indent) :][:1].strip() and line.endswith(("}", ";")):
+            return number
+    raise Unusable(f"what begins at line {first + 1} has no end")
+
+
+def body_of(lines: list[str], first: int, last: int, indent: str) -> int:
+    """The first line of a function's body: the brace that opens it is at the end of a line that is indented no more."""
+    outer = (at for at in range(first, last + 1) if lines[at].startswith(indent) and lines[at][len(indent) :][:1].strip())
+    return next((at for at in outer if lines[at].endswith("{") or at == last), last)
+
+
+def places_in(file: str, text: str) -> list[Place]:
+    """The functions and constants of a file of src/."""
+    lines, found, owner = text.splitlines(), [], ""
+    module = "".join(f"{it}::" for it in pathlib.PurePath(file).with_suffix("").parts[1:] if it not in ("lib", "main", "mod"))
+    for number, line in enumerate(lines):
+        if line[:1].strip() and line[0] not in "{}":
+            owner = owner_of(line)
+        head = HEAD.match(line)
+        head = head or CONSTANT.match(line)
+        if head:
+            indent, name = head.groups()
+            last = end_of(lines, number, indent)
+            body = body_of(lines, number, last, indent)
+            is_function = bool(HEAD.match(line))
+            found.append(Place(file, f"{module}{owner if indent else ''}{name}", number, body, last, is_function))
+    return found
+
+
+class Source:
+    """The texts of a crate, and where its functions and constants are."""
+
+    def __init__(self, crate: str) -> None:
+        self.crate, self.folder = crate, CRATES / crate
+        files = sorted((self.folder / "src").rglob("*.rt"))
+        self.texts = {it.relative_to(self.folder).as_posix(): read(it) for it in files}
+        self.places = [it for file, text in self.texts.items() for it in places_in(file, text)]
+
+    def place_of(self, file: str, number: int) -> Place | None:
+        """The innermost function or constant that has this line."""
+        having = [it for it in self.places if it.file == file and it.first <= number <= it.last]
+        return max(having, key=lambda it: it.first, default=None)
+
+    def naming(self, constant: Place) -> Iterator[Place]:
+        """The functions that name a constant, or one that is made of it."""
+        word = re.compile(rf"\b{constant.name.rpartition('::')[2]}\b")
+        for it in self.places:
+            body = self.texts[it.file].splitlines()[it.first : it.last + 1]
+            if it != constant and word.search("\n".join(body)):
+                yield from [it] if it.is_function else self.naming(it)
+
+
+# Edits.
+
+
+def pairs_in(text: str) -> Iterator[tuple[str, str, str]]:
+    """The file, the old text and the new one of each pair of an edit."""
+    path = old = None
+    for line in text.split("\n"):
+        if line.startswith("file: "):
+            path = line[6:].strip()
+        elif line.startswith("old: "):
+            old = line[5:]
+        elif line.startswith("new:"):
+            if path is None or old is None:
+                raise Unusable("a `new:` has no `old:` and `file:` before it")
+            yield path, old, line[4:].removeprefix(" ")
+            old = None
+        elif line.strip() and not line.startswith("#"):
+            raise Unusable(f"a line of it is not read: {line}")
+
+
+def changed_lines(source: Source, text: str) -> dict[tuple[str, int], str]:
+    """The lines that an edit changes, as they then are."""
+    edited = dict(source.texts)
+    for path, old, new in pairs_in(text):
+        if path not in edited:
+            raise Unusable(f"there is no file {path} in src/")
+        if edited[path].count(old) != 1:
+            raise Unusable(f"an `old:` text is in {path} {edited[path].count(old)} times, and not once")
+        edited[path] = edited[path].replace(old, new)
+    rows = ((path, zip(source.texts[path].split("\n"), edited[path].split("\n"))) for path in edited)
+    changed = {(path, number): after for path, both in rows for number, (before, after) in enumerate(both) if before != after}
+    if not changed:
+        raise Unusable("it changes nothing")
+    return changed
+
+
+def bug_of(source: Source, path: pathlib.Path) -> Bug:
+    """An edit of a crate. Where it can't be applied, it has its outcome."""
+    bug = Bug(source.crate, path.stem, {}, [], False)
+    try:
+        bug.lines = changed_lines(source, read(path))
+        for file, number in bug.lines:
+            place = source.place_of(file, number)
+            if place is None:
+                bug.is_alone = True
+            elif not place.is_function:
+                bug.owners += source.naming(place)
+            elif number < place.body:
+                raise Unusable(f"line {number + 1} of {file} is in a signature or a contract")
+            else:
+                bug.owners.append(place)
+        bug.owners = list(dict.fromkeys(bug.owners))
+        if not bug.owners:
+            raise Unusable("it is in no function, and in no constant that one names")
+    except (OSError, UnicodeError, Unusable) as fault:
+        bug.outcome, bug.why = BAD, str(fault)
+    return bug
+
+
+def batches_of(bugs: Iterable[Bug]) -> list[list[Bug]]:
+    """Bugs that can be tried at once: no two of a batch are in one function, and one that changes an item is alone."""
+    batches: list[list[Bug]] = []
+    for bug in bugs:
+        fits = (it for it in batches if not any(bug.is_alone or other.is_alone or {*bug.owners} & {*other.owners} for other in it))
+        batch = next(fits, None)
+        if batch is None:
+            batches.append([bug])
+        else:
+            batch.append(bug)
+    return batches
+
+
+# The crates, and what a check of each reads.
+
+
+def crates_below() -> dict[str, tuple[bool, list[str]]]:
+    """Each crate of crates.txt: whether it is a static library, and what it uses, also of the kit."""
+    rows = (line.partition(":") for line in read(ROOT / "crates.txt").splitlines() if line.strip() and line[0] != "#")
+    return {head.split()[0]: (head.endswith(" staticlib"), several.split()) for head, _, several in rows}
+
+
+def all_below(crate: str) -> list[str]:
+    """The crates of the repository below a crate, each after those that it uses."""
+    found: list[str] = []
+    for it in crates_below()[crate][1]:
+        if (CRATES / it).is_dir():
+            found += [low for low in [*all_below(it), it] if low not in found]
+    return found
+
+
+def files_of(crate: str, *parts: str) -> list[pathlib.Path]:
+    return sorted(it for part in parts for it in (CRATES / crate / part).rglob("*") if it.is_file())
+
+
+def sum_of(crate: str, kit: str) -> str:
+    """A sum of all that the check of a crate with its bugs reads. Of the crates below these are not the proofs of their functions."""
+    own = files_of(crate, *PARTS, "bugs")
+    below = [it for low in all_below(crate) for it in files_of(low, *PARTS) if it.name not in OWN_PROOFS]
+    used = [(it, crates_below()[it]) for it in [*all_below(crate), crate]]
+    made = hashlib.sha256(repr((JUDGED, kit, used)).encode())
+    for path in [*own, *below]:
+        made.update(repr((path.relative_to(ROOT).as_posix(), path.read_bytes())).encode())
+    return made.hexdigest()
+
+
+def record_read() -> dict[str, tuple[str, str]]:
+    """The day on which all bugs of a crate were refused, and the sum of that time."""
+    rows = read(RECORD).splitlines() if RECORD.exists() else []
+    return {crate: (day, made) for crate, day, made in (it.split() for it in rows if it[:1] not in ("", "#"))}
+
+
+def record(crate: str, made: str) -> None:
+    """Notes that all bugs of a crate were refused today."""
+    kept = {name: it for name, it in record_read().items() if (CRATES / name / "bugs").is_dir()}
+    kept[crate] = datetime.date.today().isoformat(), made
+    head = "# Written by bugs.py alone: the day on which all planted bugs of a crate were refused, and a sum of what their check read.\n"
+    part = RECORD.with_suffix(".part")
+    part.write_text(head + "".join(f"{name} {day} {it}\n" for name, (day, it) in sorted(kept.items())), encoding="utf-8")
+    part.replace(RECORD)
+
+
+# Checks.
+
+
+class Checks:
+    """Checks of copies of the crates, in a folder of their own, and the processes that run them."""
+
+    def __init__(self, folder: pathlib.Path, kit: pathlib.Path) -> None:
+        self.folder, self.kit = folder, kit
+        self.lock, self.running, self.is_over = threading.Lock(), set[subprocess.Popen[str]](), False
+
+    def run(self, words: list[str], place: pathlib.Path, **more: str) -> Said:
+        """Runs a command in a group of processes of its own."""
+        with self.lock:
+            if self.is_over:
+                raise KeyboardInterrupt
+            how = {"cwd": place, "env": os.environ | more, "text": True, "errors": "replace", "start_new_session": True}
+            ran = subprocess.Popen(words, stdin=subprocess.DEVNULL, stdout=subprocess.PIPE, stderr=subprocess.STDOUT, **how)  # type: ignore[call-overload]
+            self.running.add(ran)
+        out = ran.communicate()[0]
+        with self.lock:
+            self.running.discard(ran)
+        return Said(ran.returncode, out.rstrip("\n").split("\n"))
+
+    def end(self) -> None:
+        """Kills what runs, so that nothing is started after it."""
+        with self.lock:
+            self.is_over = True
+            for it in self.running:
+                os.killpg(it.pid, signal.SIGKILL)
+
+    def copy(self, crate: str, of: tuple[str, ...] = PARTS) -> pathlib.Path:
+        """A copy of a crate."""
+        to = self.folder / "crates" / crate
+        for part in of:
+            if (CRATES / crate / part).is_dir() and not (to / part).exists():
+                shutil.copytree(CRATES / crate / part, to / part, copy_function=shutil.copy2 if part != "out" else os.link, symlinks=True)
+        return to
+
+    def make_libraries(self, crates: list[str], is_built: bool, jobs: int) -> str:
+        """Has the libraries below these crates in the folder, and returns what went wrong."""
+        lows = list(dict.fromkeys(low for crate in crates for low in all_below(crate)))
+        for low in lows:
+            self.copy(low, (*PARTS, *["out"] * is_built))
+        lines = read(ROOT / "crates.txt").splitlines()
+        wanted = [it for it in lines if it.partition(":")[0].split()[:1] in [[low] for low in lows]]
+        (self.folder / "crates.txt").write_text("".join(f"{it}\n" for it in wanted), encoding="utf-8")
+        if (ROOT / "HANDLES").exists():
+            shutil.copy2(ROOT / "HANDLES", self.folder)
+        (self.folder / ".git").mkdir()
+        steps = [(["rt", "lib", "--jobs", str(jobs)], self.folder / "crates" / low) for low in lows] if is_built else [(["rt", "ci"], self.folder)] * bool(lows)
+        for words, place in steps:
+            said = self.run(words, place, RT_JOBS=str(jobs))
+            if said.status:
+                return "\n".join([f"the libraries can't be had: {' '.join(words)} in {place.name} ended with status {said.status}", *said.lines[-20:]])
+        return ""
+
+    def words(self, crate: str) -> list[str]:
+        """The words of a check of a crate over these libraries, as rattle's help has them."""
+        is_static, uses = crates_below()[crate]
+        root = "src/main.rt" if (CRATES / crate / "src" / "main.rt").exists() else "src/lib.rt"
+        rlib = {low: self.folder / "crates" / low / "out" / "rlib" for low in all_below(crate)}
+        found = [str(self.kit / "bin" / "rattle"), "check", "--crate-name", crate, root, "--jobs", "1", "--links", f"{crate}="]
+        for it in ["std", *uses]:
+            found += ["--extern", f"{it}={rlib.get(it, self.kit / 'rlibs')}/{it}.rlib"]
+        for place in [self.kit / "rlibs", *rlib.values()]:
+            found += ["-L", f"dependency={place}"]
+        found += ["--antt-project", f"{self.kit}/rattle/logic/antt-project.json", "--logic-built", f"{self.kit}/logic_built"]
+        return found + ["--crate-type", "staticlib"] * is_static
+
+    def check(self, source: Source, bugs: list[Bug]) -> Said:
+        """Checks the functions of these bugs with all of them planted, over what earlier checks of the crate kept."""
+        place = self.folder / "tried" / source.crate
+        edited = {file: text.split("\n") for file, text in source.texts.items()}
+        for bug in bugs:
+            for (file, number), line in bug.lines.items():
+                edited[file][number] = line
+        for file, lines in edited.items():
+            (place / file).write_text("\n".join(lines), encoding="utf-8")
+        only = dict.fromkeys(owner.name for bug in bugs for owner in bug.owners)
+        words = [*self.words(source.crate), "--incremental", str(place / "kept"), *(it for name in only for it in ("--only", name))]
+        return self.run(words, place)
+
+
+# What a check says of bugs.
+
+
+def goals_of(bug: Bug, said: Said) -> list[str]:
+    """The goals of a bug's own functions that are open, and then the answers in their proofs that fail."""
+    places = [(OPEN_GOAL.match(line), line) for line in said.lines]
+    own = [at for at, _ in places if at and any(it.file == at[1] and it.first < int(at[2]) <= it.last + 1 for it in bug.owners)]
+    answers = [(FAILED_ANSWER.match(line), line) for line in said.lines]
+    proofs = [it.proofs for it in bug.owners]
+    return [f"{at[1]}:{at[2]}: {at[3]}" for at in own] + [line.removeprefix("./") for at, line in answers if at and at[1] in proofs]
+
+
+def judge(bug: Bug, said: Said) -> None:
+    """Notes what came of a bug by a check that has come to its end."""
+    verdicts = [said.verdicts.get(f"{bug.crate}::{it.name}", "no verdict") for it in bug.owners]
+    goals = goals_of(bug, said)
+    unread = [it for it in said.lines for at in [UNREAD.match(it)] if at and (at[1], int(at[2]) - 1) in bug.lines]
+    if unread:
+        bug.outcome, bug.why = BAD, unread[0]
+    elif goals and any(it in ("not proved", "no proof") for it in verdicts):
+        bug.outcome, bug.why = REFUSED, goals[0]
+    elif any(it in ("no verdict", "could not tell") for it in verdicts):
+        bug.outcome, bug.why = UNTRIED, "the prover could not tell"
+    else:
+        bug.outcome = MISSED
+
+
+def judge_alone(bug: Bug, said: Said) -> None:
+    """Notes what came of a bug where the check of it alone didn't come to its end."""
+    unread = [it for it in said.lines if UNREAD.match(it)]
+    is_bad = unread and said.status == 1
+    bug.outcome = BAD if is_bad else UNTRIED
+    bug.why = unread[0] if is_bad else f"the check ended with status {said.status}: {said.lines[-1]}"
+
+
+def try_batch(checks: Checks, source: Source, bugs: list[Bug]) -> None:
+    """Tries bugs at once. Where the prover comes to no end, one half and then the other, so that one bug fails alone."""
+    said = checks.check(source, bugs)
+    if said.judges:
+        for bug in bugs:
+            judge(bug, said)
+    elif len(bugs) == 1:
+        judge_alone(bugs[0], said)
+    else:
+        half = len(bugs) // 2
+        try_batch(checks, source, bugs[:half])
+        try_batch(checks, source, bugs[half:])
+
+
+def try_crate(checks: Checks, crate: str, bugs: list[Bug]) -> None:
+    """Tries all bugs of a crate that can be applied."""
+    place = checks.folder / "tried" / crate
+    for part in PARTS:
+        if (CRATES / crate / part).is_dir():
+            shutil.copytree(CRATES / crate / part, place / part)
+    source = Source(crate)
+    for batch in batches_of(it for it in bugs if not it.outcome):
+        try_batch(checks, source, batch)
+    shutil.rmtree(place)
+
+
+# The run.
+
+
+def free_memory() -> int:
+    found = re.search(r"^MemAvailable: +(\d+) kB$", read(pathlib.Path("/proc/meminfo")), re.M)
+    return 1024 * int(found[1]) if found else MEMORY
+
+
+def bugs_of(crate: str) -> list[Bug]:
+    source = Source(crate)
+    return [bug_of(source, it) for it in sorted((CRATES / crate / "bugs").iterdir())]
+
+
+def try_crates(checks: Checks, bugs: dict[str, list[Bug]], sums: dict[str, str], jobs: int) -> None:
+    """Tries the bugs of crates side by side, the crates with the most of them first, and says what came of each."""
+    began, done = time.monotonic(), 0
+    order = sorted(bugs, key=lambda it: -len(bugs[it]))
+    with concurrent.futures.ThreadPoolExecutor(jobs) as pool:
+        runs = {pool.submit(try_crate, checks, it, bugs[it]): it for it in order}
+        for run in concurrent.futures.as_completed(runs):
+            run.result()
+            crate, done = runs[run], done + 1
+            for bug in bugs[crate]:
+                print(bug)
+            refused = sum(it.outcome == REFUSED for it in bugs[crate])
+            minutes = (time.monotonic() - began) / 60
+            print(f"note {crate}: {refused} of {len(bugs[crate])} bugs are refused: crate {done} of {len(bugs)}, {minutes:.0f} minutes so far", flush=True)
+            if refused == len(bugs[crate]):
+                record(crate, sums[crate])
+
+
+def skip_unchanged(crates: list[str], sums: dict[str, str]) -> tuple[list[str], int]:
+    """The crates that have to be tried, and how many bugs are left out, which it says."""
+    known, wanted, skipped = record_read(), [], 0
+    for crate in crates:
+        day, made = known.get(crate, ("", ""))
+        if made != sums[crate]:
+            wanted.append(crate)
+            continue
+        many = len(list((CRATES / crate / "bugs").iterdir()))
+        print(f"SKIPPED: {crate}: {many} planted bugs were refused on {day}, and nothing that their check reads has changed")
+        skipped += many
+    return wanted, skipped
+
+
+def try_all(crates: list[str], sums: dict[str, str], jobs: int, is_built: bool) -> list[Bug]:
+    """Tries the bugs of these crates, in a folder that is removed at any end."""
+    bugs = {it: bugs_of(it) for it in crates}
+    kit = pathlib.Path(subprocess.run(["rt", "doc"], check=True, text=True, stdout=subprocess.PIPE).stdout.strip()).parent
+    with tempfile.TemporaryDirectory(prefix="tmx-bugs-") as folder:
+        checks = Checks(pathlib.Path(folder), kit)
+        try:
+            fault = checks.make_libraries(crates, is_built, jobs)
+            if fault:
+                print(fault)
+                for it in (bug for several in bugs.values() for bug in several):
+                    it.outcome, it.why = UNTRIED, "there are no libraries"
+                    print(it)
+            else:
+                try_crates(checks, bugs, sums, max(1, min(jobs, free_memory() // MEMORY)))
+        finally:
+            checks.end()
+    return [it for several in bugs.values() for it in several]
+
+
+def main() -> int:
+    having = sorted(it.parent.name for it in CRATES.glob("*/bugs"))
+    parser = argparse.ArgumentParser(description="Tries planted bugs in batches.")
+    parser.add_argument("crates", nargs="*", metavar="CRATE", choices=[*having, []], help="try the bugs of these crates")
+    parser.add_argument("--all", action="store_true", help="try the bugs of all crates, whether or not they have changed")
+    parser.add_argument("--built", action="store_true", help="take the libraries that `rt lib` keeps in out/")
+    parser.add_argument("--jobs", type=int, default=len(os.sched_getaffinity(0)), help="so many checks at once")
+    said = parser.parse_args()
+    for number in (signal.SIGTERM, signal.SIGHUP):
+        signal.signal(number, lambda *_: sys.exit(1))
+    version = subprocess.run(["rt", "version"], check=True, text=True, stdout=subprocess.PIPE).stdout.strip()
+    crates = said.crates or having
+    sums = {it: sum_of(it, version) for it in crates}
+    wanted, skipped = (crates, 0) if said.all or said.crates else skip_unchanged(crates, sums)
+    tried = try_all(wanted, sums, said.jobs, said.built) if wanted else []
+    failed = [it for it in tried if it.outcome != REFUSED]
+    print(f"{len(tried) - len(failed)} passed, {len(failed)} failed, {skipped} skipped")
+    return 1 if failed else 0
+
+
+if __name__ == "__main__":
+    sys.exit(main())

@@ -322,6 +322,8 @@ class Checks:
     def __init__(self, folder: pathlib.Path, kit: pathlib.Path) -> None:
         self.folder, self.kit = folder, kit
         self.lock, self.running, self.is_over = threading.Lock(), set[subprocess.Popen[str]](), False
+        # What the checks of each crate took of a processor.
+        self.seconds: dict[str, float] = {}
 
     def run(self, words: list[str], place: pathlib.Path, **more: str) -> Said:
         """Runs a command in a group of processes of its own."""
@@ -331,9 +333,12 @@ class Checks:
             how = {"cwd": place, "env": os.environ | more, "text": True, "errors": "replace", "start_new_session": True}
             ran = subprocess.Popen(words, stdin=subprocess.DEVNULL, stdout=subprocess.PIPE, stderr=subprocess.STDOUT, **how)  # type: ignore[call-overload]
             self.running.add(ran)
-        out = ran.communicate()[0]
+        out = ran.stdout.read()
+        _, status, usage = os.wait4(ran.pid, 0)
+        ran.returncode = os.waitstatus_to_exitcode(status)
         with self.lock:
             self.running.discard(ran)
+            self.seconds[place.name] = self.seconds.get(place.name, 0) + usage.ru_utime + usage.ru_stime
         return Said(ran.returncode, out.rstrip("\n").split("\n"))
 
     def end(self) -> None:
@@ -483,7 +488,8 @@ def try_crates(checks: Checks, bugs: dict[str, list[Bug]], sums: dict[str, str],
                 print(bug)
             refused = sum(it.outcome == REFUSED for it in bugs[crate])
             minutes = (time.monotonic() - began) / 60
-            print(f"note {crate}: {refused} of {len(bugs[crate])} bugs are refused: crate {done} of {len(bugs)}, {minutes:.0f} minutes so far", flush=True)
+            print(f"note {crate}: {refused} of {len(bugs[crate])} bugs are refused, in {checks.seconds.get(crate, 0):.0f} processor s")
+            print(f"note crate {done} of {len(bugs)}, {minutes:.0f} minutes so far", flush=True)
             if refused == len(bugs[crate]):
                 record(crate, sums[crate])
 

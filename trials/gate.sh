@@ -8,7 +8,8 @@
 # has to be another than 0, and its last line has to count failures. `library` takes the library that LIBRARY names, without a compiler: so its
 # Python parts alone are tried. It is run besides with a program that drops an octet where it goes on from a checkpoint, and with a library that
 # tells a length one octet too large. Each run ends at its first failure. Groups of a few lines show each rule by which trials are counted, and so does
-# a copy of ./test over stubs. Prints a line for each trial and a count, as hostile.sh does.
+# a copy of ./test over stubs. bugs.py has to fail on planted bugs of a small crate that no contract refuses, and without a prover. Prints a line for
+# each trial and a count, as hostile.sh does.
 set -u
 unset CDPATH
 here=$(cd "$(dirname "$0")" && pwd)
@@ -217,17 +218,19 @@ try_rules() {
     tell_failed "the group anything in no time" "$(ended $? said)"
 }
 
-# What goes wrong in a copy of ./test, where all that it runs is a stub: the program to put in the place of a stub, from standard input. For that
-# of unproved.sh, which makes the program besides, it is ./test quick.
+# What goes wrong in a copy of ./test, where all that it runs is a stub: the program to put in the place of a stub, from standard input, and words
+# for ./test. For the stub of unproved.sh, which makes the program besides, it is ./test quick.
 copy_of_test() {
-    local name words=()
+    local name words=("${@:2}")
     rm -rf copy
-    for name in copy/trials/names.py copy/trials/promises.py copy/rt; do
+    for name in copy/trials/names.py copy/trials/promises.py copy/trials/bugs.py; do
         program $name <<<'echo "3 passed, 0 failed"'
     done
     for name in copy/trials/hostile.sh copy/trials/gate.sh; do
         program $name <<<'printf "%s\n" "SKIPPED: a: b" "2 ok, 0 failed, 1 skipped"'
     done
+    program copy/rt <<<'printf "%s\n" "rt: tm_low proved" "rt: tm_high is kept: it was proved" "3 passed, 0 failed"'
+    printf '%s\n' "# Crates." tm_low: "tm_high: tm_low" >copy/crates.txt
     printf '%s\n' zero live long files >copy/trials/groups.txt
     cp "$here/../test" copy
     [ $# = 0 ] || program "copy/$1"
@@ -241,7 +244,7 @@ copy_of_test() {
 # The name of a wrong end, and the program that has it.
 wrong_end() {
     local name
-    for name in rt trials/hostile.sh trials/unproved.sh; do
+    for name in rt trials/bugs.py trials/hostile.sh trials/unproved.sh; do
         copy_of_test $name <<<"$2"
         tell_failed "./test where ${name#trials/} $1" "$(ended $? said)"
     done
@@ -249,10 +252,14 @@ wrong_end() {
 
 try_test() {
     copy_of_test || echo "status $?" >>said
-    tell "./test in order" "$(tail -n 1 said | grep -vxF "15 passed, 0 failed, 3 skipped")"
+    tell "./test in order" "$(tail -n 1 said | grep -vxF "18 passed, 0 failed, 3 skipped")"
     tell "./test says what is skipped" "$(printf '%s: SKIPPED: a: b\n' live files gate | diff - <(tail -n 5 said | head -n 3))"
+    tell "./test says how far it is" "$(grep -cE '^\./test: crate [12] of 2, 0 minutes so far$' said | grep -vx 2)"
+    tell "./test says what each part took" "$(grep -cE '^[a-z, ]+: [0-9.]+ minutes, [0-9.]+ processor minutes$' said | grep -vx 5)"
+    copy_of_test trials/bugs.py all <<<'[ "$*" = --all ] && echo "3 passed, 0 failed, 0 skipped"' || echo "status $?" >>said
+    tell "./test all tries all planted bugs" "$(tail -n 1 said | grep -vxF "18 passed, 0 failed, 3 skipped")"
     copy_of_test trials/unproved.sh <<<'echo "3 passed, 0 failed, 0 skipped"' || echo "status $?" >>said
-    tell "./test quick in order" "$(tail -n 2 said | diff - <(printf '%s\n' "nothing was proved: ./test does that" "21 passed, 0 failed, 5 skipped"))"
+    tell "./test quick in order" "$(tail -n 2 said | diff - <(printf '%s\n' "nothing was proved: ./test does that" "21 passed, 0 failed, 6 skipped"))"
     copy_of_test trials/unproved.sh <<<'rm "$2"; echo "3 passed, 0 failed, 0 skipped"'
     tell_failed "./test quick where no program is made" "$(ended $? said)"
     wrong_end "is killed" 'kill -KILL $$'
@@ -263,8 +270,107 @@ try_test() {
     wrong_end "has another last line" 'echo "3 passed, 0 failed"; echo Killed'
 }
 
+# A small crate in a tree of its own, in which bugs can be planted.
+make_small_crate() {
+    mkdir -p tree/trials tree/crates/small/src tree/crates/small/bugs
+    cp "$here/bugs.py" tree/trials
+    echo "small:" >tree/crates.txt
+    cat >tree/crates/small/src/lib.rt <<'END'
+//! Functions in which bugs are planted.
+#![tactic(auto)]
+
+ghost use Rattle.std.specs.Prelude.{◌≡◌, ◌≤◌, ℕ};
+
+use std::marker::Model;
+
+/// Two numbers, of which contracts see one.
+#[derive(Drop)]
+pub struct Pair {
+    seen: u8,
+    other: u8,
+}
+
+impl Model for Pair {
+    ghost Value = { ℕ };
+
+    ghost view = { λ pair. pair.seen };
+}
+
+impl Pair {
+    /// The number that contracts see.
+    pub fn seen(&self) -> u8
+        ensures { result ≡ self.now }
+    {
+        self.seen
+    }
+
+    /// The other number.
+    pub fn other(&self) -> u8 {
+        self.other
+    }
+}
+
+/// The number 1.
+pub fn one() -> u8
+    ensures { result ≡ 1 }
+{
+    1
+}
+
+/// A number that is no smaller.
+pub fn no_smaller(octet: u8) -> u8
+    ensures { octet ≤ result }
+{
+    if octet < 2 { one() } else { octet }
+}
+END
+}
+
+# A planted bug of this name: an old text and a new one, as often as is wanted.
+plant() {
+    local name=$1
+    shift
+    { echo "file: src/lib.rt" && printf 'old: %s\nnew: %s\n' "$@"; } >"tree/crates/small/bugs/$name.edit"
+}
+
+# What bugs.py says of the small crate goes to a file, with its status if that isn't 0.
+small_bugs() {
+    tree/trials/bugs.py "$@" >said 2>&1 </dev/null || echo "status $?" >>said
+}
+
+try_bugs() {
+    local real kit
+    if ! real=$(command -v rt); then
+        skip 8 "planted bugs" "there is no rt"
+        return
+    fi
+    make_small_crate
+    plant refused "    1" "    2"
+    plant same "octet < 2" "octet < 1"
+    plant elsewhere "        self.other" "        self.other / 1" "pair.seen" "pair.other"
+    plant unread "        self.seen" "        self.unknown"
+    plant twice "pub fn" "fn"
+    small_bugs
+    tell "a planted bug that breaks its own function is refused" "$(grep -c '^ok   small/refused: refused: src/lib.rt:' said | grep -vx 1)"
+    tell "a planted bug that no contract sees fails" "$(grep -cx 'FAILED: small/same: NOT REFUSED' said | grep -vx 1)"
+    tell "a planted bug that breaks another function alone fails" "$(grep -cx 'FAILED: small/elsewhere: NOT REFUSED' said | grep -vx 1)"
+    tell "a planted bug that can't be read fails" "$(grep -c '^FAILED: small/unread: BAD EDIT: src/lib.rt:' said | grep -vx 1)"
+    tell "a planted bug that can't be applied fails" "$(grep -c '^FAILED: small/twice: BAD EDIT: ' said | grep -vx 1)"
+    tell "planted bugs that fail are counted" "$(tail -n 2 said | diff - <(printf '%s\n' "1 passed, 4 failed, 0 skipped" "status 1"))"
+    rm tree/crates/small/bugs/{same,elsewhere,unread,twice}.edit
+    small_bugs && small_bugs
+    tell "planted bugs that were refused aren't tried again" "$(tail -n 1 said | grep -vxF "0 passed, 0 failed, 1 skipped")"
+    echo "// A line more." >>tree/crates/small/src/lib.rt
+    kit=$folder/kit
+    program kit/bin/rattle <<<'kill -KILL $$'
+    program kit/rt <<<"if [ \"\$1\" = doc ]; then echo '$kit/PAGE.md'; else exec '$real' \"\$@\"; fi"
+    PATH=$kit:$PATH small_bugs
+    tell "planted bugs without a prover fail" "$(grep -cE '^FAILED: small/refused: NOT TRIED: |^0 passed, 1 failed, 0 skipped$|^status 1$' said | grep -vx 3)"
+}
+
 try_rules
 try_test
+try_bugs
 groups=()
 for group in "$@"; do
     if [ "$group" = library ] && ! [ -d "${LIBRARY:-}" ]; then
@@ -274,8 +380,8 @@ for group in "$@"; do
     fi
 done
 try_groups "${groups[@]}"
-# 20 rules, 22 ends of ./test, and the cases of all groups.
-planned=$((20 + 22 + $(for group in "$@"; do cases_of "$group"; done | wc -w)))
+# 20 rules, 31 ends of ./test, 8 of planted bugs, and the cases of all groups.
+planned=$((20 + 31 + 8 + $(for group in "$@"; do cases_of "$group"; done | wc -w)))
 tried=$((passed + failed + skipped))
 tell "all of it is tried" "$([ $tried = $planned ] || echo "$tried trials are made, and $planned planned")"
 echo "$passed ok, $failed failed, $skipped skipped"

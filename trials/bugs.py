@@ -26,6 +26,7 @@ import argparse
 import concurrent.futures
 import datetime
 import hashlib
+import operator
 import os
 import pathlib
 import re
@@ -36,7 +37,7 @@ import sys
 import tempfile
 import threading
 import time
-from collections.abc import Iterable, Iterator
+from collections.abc import Callable, Iterable, Iterator
 from dataclasses import dataclass, field
 
 ROOT = pathlib.Path(__file__).resolve().parent.parent
@@ -180,8 +181,8 @@ class Source:
 
     def place_of(self, file: str, number: int) -> Place | None:
         """The innermost function or constant that has this line."""
-        having = [it for it in self.places if it.file == file and it.first <= number <= it.last]
-        return max(having, key=lambda it: it.first, default=None)
+        having = (it for it in self.places if it.file == file and it.first <= number <= it.last)
+        return max(having, key=operator.attrgetter("first"), default=None)
 
     def naming(self, constant: Place) -> Iterator[Place]:
         """The functions that name a constant, or one that is made of it."""
@@ -316,6 +317,14 @@ def record(crate: str, made: str) -> None:
 # Checks.
 
 
+def link_or_copy(one: str, other: str) -> None:
+    """Gives a file that rt made another name, or copies it to another disk: rt replaces such files, and writes into none."""
+    try:
+        os.link(one, other)
+    except OSError:
+        shutil.copy2(one, other)
+
+
 class Checks:
     """Checks of copies of the crates, in a folder of their own, and the processes that run them."""
 
@@ -352,8 +361,9 @@ class Checks:
         """A copy of a crate."""
         to = self.folder / "crates" / crate
         for part in of:
+            copy: Callable[[str, str], object] = link_or_copy if part == "out" else shutil.copy2
             if (CRATES / crate / part).is_dir() and not (to / part).exists():
-                shutil.copytree(CRATES / crate / part, to / part, copy_function=shutil.copy2 if part != "out" else os.link, symlinks=True)
+                shutil.copytree(CRATES / crate / part, to / part, copy_function=copy)
         return to
 
     def make_libraries(self, crates: list[str], is_built: bool, jobs: int) -> str:

@@ -15,8 +15,9 @@ struct, is tried alone. BAD EDIT is one that can't be applied or read, or that c
 no verdict. All three fail.
 
 The work tree isn't touched: all is done in a temporary folder, which TMPDIR chooses. The libraries below are those that `rt ci` proved from the
-same files on this machine, or else it proves them first. With --built they are those that `rt lib` keeps in out/. A crate whose bugs were all
-refused gets a line in trials/refused.txt: the day, and a sum of all that its check reads. A crate that still has that sum isn't tried again.
+same files on this machine, or else it proves them first. With --built they are those that `rt lib` keeps in out/, and what `rt check` keeps
+there of the crate itself isn't proved again. A crate whose bugs were all refused gets a line in trials/refused.txt: the day, and a sum of all
+that its check reads. A crate that still has that sum isn't tried again.
 
 It prints a line for each bug, and last `N passed, N failed, N skipped`. Its status is 0 if none failed."""
 
@@ -24,6 +25,7 @@ from __future__ import annotations
 
 import argparse
 import concurrent.futures
+import contextlib
 import datetime
 import hashlib
 import operator
@@ -318,18 +320,19 @@ def record(crate: str, made: str) -> None:
 
 
 def link_or_copy(one: str, other: str) -> None:
-    """Gives a file that rt made another name, or copies it to another disk: rt replaces such files, and writes into none."""
-    try:
-        os.link(one, other)
-    except OSError:
-        shutil.copy2(one, other)
+    """Gives a file that rt made another name, if rt replaces such a file and never writes into it, or else copies it."""
+    with contextlib.suppress(OSError):
+        if one.endswith(".oantt") or "/out/rlib/" in one:
+            os.link(one, other)
+            return
+    shutil.copy2(one, other)
 
 
 class Checks:
     """Checks of copies of the crates, in a folder of their own, and the processes that run them."""
 
-    def __init__(self, folder: pathlib.Path, kit: pathlib.Path) -> None:
-        self.folder, self.kit = folder, kit
+    def __init__(self, folder: pathlib.Path, kit: pathlib.Path, is_built: bool) -> None:
+        self.folder, self.kit, self.is_built = folder, kit, is_built
         self.lock, self.running, self.is_over = threading.Lock(), set[subprocess.Popen[str]](), False
         # What the checks of each crate took of a processor.
         self.seconds: dict[str, float] = {}
@@ -355,29 +358,32 @@ class Checks:
         with self.lock:
             self.is_over = True
             for it in self.running:
-                os.killpg(it.pid, signal.SIGKILL)
+                with contextlib.suppress(ProcessLookupError):
+                    os.killpg(it.pid, signal.SIGKILL)
 
-    def copy(self, crate: str, of: tuple[str, ...] = PARTS) -> pathlib.Path:
-        """A copy of a crate."""
-        to = self.folder / "crates" / crate
-        for part in of:
-            copy: Callable[[str, str], object] = link_or_copy if part == "out" else shutil.copy2
-            if (CRATES / crate / part).is_dir() and not (to / part).exists():
+    def copy(self, crate: str, to: pathlib.Path, *parts: str) -> None:
+        """Copies parts of a crate."""
+        for part in parts:
+            copy: Callable[[str, str], object] = shutil.copy2
+            if part.startswith("out"):
+                copy = link_or_copy
+            if (CRATES / crate / part).is_dir():
                 shutil.copytree(CRATES / crate / part, to / part, copy_function=copy)
-        return to
 
-    def make_libraries(self, crates: list[str], is_built: bool, jobs: int) -> str:
+    def make_libraries(self, crates: list[str], jobs: int) -> str:
         """Has the libraries below these crates in the folder, and returns what went wrong."""
         lows = list(dict.fromkeys(low for crate in crates for low in all_below(crate)))
         for low in lows:
-            self.copy(low, (*PARTS, *["out"] * is_built))
+            self.copy(low, self.folder / "crates" / low, *PARTS, *["out"] * self.is_built)
         lines = read(ROOT / "crates.txt").splitlines()
         wanted = [it for it in lines if it.partition(":")[0].split()[:1] in [[low] for low in lows]]
         (self.folder / "crates.txt").write_text("".join(f"{it}\n" for it in wanted), encoding="utf-8")
         if (ROOT / "HANDLES").exists():
             shutil.copy2(ROOT / "HANDLES", self.folder)
         (self.folder / ".git").mkdir()
-        steps = [(["rt", "lib", "--jobs", str(jobs)], self.folder / "crates" / low) for low in lows] if is_built else [(["rt", "ci"], self.folder)] * bool(lows)
+        steps = [(["rt", "ci"], self.folder)] * bool(lows)
+        if self.is_built:
+            steps = [(["rt", "lib", "--jobs", str(jobs)], self.folder / "crates" / low) for low in lows]
         for words, place in steps:
             said = self.run(words, place, RT_JOBS=str(jobs))
             if said.status:
@@ -407,7 +413,7 @@ class Checks:
         for file, lines in edited.items():
             (place / file).write_text("\n".join(lines), encoding="utf-8")
         only = dict.fromkeys(owner.name for bug in bugs for owner in bug.owners)
-        words = [*self.words(source.crate), "--incremental", str(place / "kept"), *(it for name in only for it in ("--only", name))]
+        words = [*self.words(source.crate), "--incremental", str(place / "out" / "incremental"), *(it for name in only for it in ("--only", name))]
         return self.run(words, place)
 
 
@@ -463,9 +469,7 @@ def try_batch(checks: Checks, source: Source, bugs: list[Bug]) -> None:
 def try_crate(checks: Checks, crate: str, bugs: list[Bug]) -> None:
     """Tries all bugs of a crate that can be applied."""
     place = checks.folder / "tried" / crate
-    for part in PARTS:
-        if (CRATES / crate / part).is_dir():
-            shutil.copytree(CRATES / crate / part, place / part)
+    checks.copy(crate, place, *PARTS, *["out/incremental"] * checks.is_built)
     source = Source(crate)
     for batch in batches_of(it for it in bugs if not it.outcome):
         try_batch(checks, source, batch)
@@ -485,23 +489,31 @@ def bugs_of(crate: str) -> list[Bug]:
     return [bug_of(source, it) for it in sorted((CRATES / crate / "bugs").iterdir())]
 
 
+def tell(checks: Checks, crate: str, bugs: list[Bug], done: str) -> bool:
+    """Says what came of a crate's bugs, and returns whether all were refused."""
+    for bug in bugs:
+        print(bug)
+    refused = sum(it.outcome == REFUSED for it in bugs)
+    print(f"note {crate}: {refused} of {len(bugs)} bugs are refused, in {checks.seconds.get(crate, 0):.0f} processor s: {done}", flush=True)
+    return refused == len(bugs)
+
+
 def try_crates(checks: Checks, bugs: dict[str, list[Bug]], sums: dict[str, str], jobs: int) -> None:
-    """Tries the bugs of crates side by side, the crates with the most of them first, and says what came of each."""
-    began, done = time.monotonic(), 0
+    """Tries the bugs of crates side by side, the crates with the most of them first."""
+    began = time.monotonic()
     order = sorted(bugs, key=lambda it: -len(bugs[it]))
     with concurrent.futures.ThreadPoolExecutor(jobs) as pool:
         runs = {pool.submit(try_crate, checks, it, bugs[it]): it for it in order}
-        for run in concurrent.futures.as_completed(runs):
-            run.result()
-            crate, done = runs[run], done + 1
-            for bug in bugs[crate]:
-                print(bug)
-            refused = sum(it.outcome == REFUSED for it in bugs[crate])
-            minutes = (time.monotonic() - began) / 60
-            print(f"note {crate}: {refused} of {len(bugs[crate])} bugs are refused, in {checks.seconds.get(crate, 0):.0f} processor s")
-            print(f"note crate {done} of {len(bugs)}, {minutes:.0f} minutes so far", flush=True)
-            if refused == len(bugs[crate]):
-                record(crate, sums[crate])
+        try:
+            for done, run in enumerate(concurrent.futures.as_completed(runs), 1):
+                run.result()
+                minutes = (time.monotonic() - began) / 60
+                if tell(checks, runs[run], bugs[runs[run]], f"crate {done} of {len(bugs)}, {minutes:.0f} minutes so far"):
+                    record(runs[run], sums[runs[run]])
+        except BaseException:
+            checks.end()
+            pool.shutdown(cancel_futures=True)
+            raise
 
 
 def skip_unchanged(crates: list[str], sums: dict[str, str]) -> tuple[list[str], int]:
@@ -523,9 +535,9 @@ def try_all(crates: list[str], sums: dict[str, str], jobs: int, is_built: bool) 
     bugs = {it: bugs_of(it) for it in crates}
     kit = pathlib.Path(subprocess.run(["rt", "doc"], check=True, text=True, stdout=subprocess.PIPE).stdout.strip()).parent
     with tempfile.TemporaryDirectory(prefix="tmx-bugs-") as folder:
-        checks = Checks(pathlib.Path(folder), kit)
+        checks = Checks(pathlib.Path(folder), kit, is_built)
         try:
-            fault = checks.make_libraries(crates, is_built, jobs)
+            fault = checks.make_libraries(crates, jobs)
             if fault:
                 print(fault)
                 for it in (bug for several in bugs.values() for bug in several):

@@ -11,7 +11,7 @@ Each TEXT is one line, and the old one is in the file once. Later pairs change w
 Bugs of different functions are planted at once, and one check of these functions judges them all. Its notes name each goal that is open, by
 its place. A bug is refused only where a goal of its own function is open, or where an answer in its own function's proof fails. Else it is
 NOT REFUSED, whatever else fails. A bug in a constant is one of the functions that name the constant. One that changes an item, such as a
-struct, is tried alone. BAD EDIT is one that can't be applied or read, or that changes a contract. NOT TRIED is one for which the prover gave
+struct, is tried alone, and so is one by which a lemma fails. BAD EDIT is one that can't be applied or read, or that changes a contract. NOT TRIED is one for which the prover gave
 no verdict. All three fail.
 
 The work tree isn't touched: all is done in a temporary folder, which TMPDIR chooses. The libraries below are those that `rt ci` proved from the
@@ -62,8 +62,11 @@ HEAD = re.compile(r"( *)(?:pub(?:\([\w:]+\))? )?(?:(?:const|unsafe|extern \"C\")
 CONSTANT = re.compile(r"( *)(?:pub(?:\([\w:]+\))? )?(?:const|static) (\w+): ")
 BLOCK = re.compile(r"(?:pub(?:\([\w:]+\))? )?(impl|trait)\b(<.*?>(?= ))? ?(?:(.*?)(?:<.*>)? for )?(?:&(?:'\w+ )?(?:mut )?)?(\w+)")
 
+# What a check says of goals that are open, and of answers that fail by themselves, and not since something else did.
 OPEN_GOAL = re.compile(r"note: (src/\S+?):(\d+):\d+: (?:it is not proved that )?(.*\(`[^`]+`\).*)")
-FAILED_ANSWER = re.compile(r"(?:\./)?(proofs/\S+)/\w+\.antt:\d+:\d+: error: .*")
+UNANSWERED = re.compile(r"note: (`[^`]+`) of (proofs/\S+)/\w+\.antt must prove: .*")
+FAILED_ANSWER = re.compile(r"(?:\./)?(proofs/\S+)/(?:Answers|Invariants|Proof)\.antt:\d+:\d+: error: (?!.*(?:was rejected|was not admitted|is not in scope|has no )).*")
+FAILED_LEMMA = re.compile(r"(?:\./)?(?:proofs|specs)/(?!\S+/(?:Answers|Invariants|Proof)\.antt)\S+:\d+:\d+: error: .*")
 UNREAD = re.compile(r"(?:\./)?(src/\S+?):(\d+):\d+: error\b.*")
 VERDICT = re.compile(r"fn (\S+): (proved|not proved|no proof|could not tell)")
 
@@ -74,7 +77,7 @@ class Unusable(Exception):
 
 @dataclass(frozen=True)
 class Place:
-    """A function or a constant of a file: its name as rattle has it, its lines, and the first line of its body."""
+    """A function or a constant of a file: its name as rattle has it, its lines from its attributes on, and the first line of its body."""
 
     file: str
     name: str
@@ -97,7 +100,8 @@ class Bug:
     name: str
     lines: dict[tuple[str, int], str]
     owners: list[Place]
-    is_alone: bool
+    is_alone: bool = False
+    is_in_constant: bool = False
     outcome: str = ""
     why: str = ""
 
@@ -167,8 +171,9 @@ def places_in(file: str, text: str) -> list[Place]:
             indent, name = head.groups()
             last = end_of(lines, number, indent)
             body = body_of(lines, number, last, indent)
-            is_function = bool(HEAD.match(line))
-            found.append(Place(file, f"{module}{owner if indent else ''}{name}", number, body, last, is_function))
+            while lines[number - 1].startswith(f"{indent}#["):
+                number -= 1
+            found.append(Place(file, f"{module}{owner if indent else ''}{name}", number, body, last, bool(HEAD.match(line))))
     return found
 
 
@@ -233,7 +238,7 @@ def changed_lines(source: Source, text: str) -> dict[tuple[str, int], str]:
 
 def bug_of(source: Source, path: pathlib.Path) -> Bug:
     """An edit of a crate. Where it can't be applied, it has its outcome."""
-    bug = Bug(source.crate, path.stem, {}, [], False)
+    bug = Bug(source.crate, path.stem, {}, [])
     try:
         bug.lines = changed_lines(source, read(path))
         for file, number in bug.lines:
@@ -241,6 +246,7 @@ def bug_of(source: Source, path: pathlib.Path) -> Bug:
             if place is None:
                 bug.is_alone = True
             elif not place.is_function:
+                bug.is_in_constant = True
                 bug.owners += source.naming(place)
             elif number < place.body:
                 raise Unusable(f"line {number + 1} of {file} is in a signature or a contract")
@@ -255,11 +261,12 @@ def bug_of(source: Source, path: pathlib.Path) -> Bug:
 
 
 def batches_of(bugs: Iterable[Bug]) -> list[list[Bug]]:
-    """Bugs that can be tried at once: no two of a batch are in one function, and one that changes an item is alone."""
+    """Bugs that can be tried at once: no two of a batch are in one function, one in a constant isn't with others, and one that changes an item
+    is alone."""
     batches: list[list[Bug]] = []
     for bug in bugs:
-        fits = (it for it in batches if not any(bug.is_alone or other.is_alone or {*bug.owners} & {*other.owners} for other in it))
-        batch = next(fits, None)
+        apart = (it for it in batches if it[0].is_in_constant == bug.is_in_constant and not (bug.is_alone or it[0].is_alone))
+        batch = next((it for it in apart if not any({*bug.owners} & {*other.owners} for other in it)), None)
         if batch is None:
             batches.append([bug])
         else:
@@ -331,8 +338,8 @@ def link_or_copy(one: str, other: str) -> None:
 class Checks:
     """Checks of copies of the crates, in a folder of their own, and the processes that run them."""
 
-    def __init__(self, folder: pathlib.Path, kit: pathlib.Path, is_built: bool) -> None:
-        self.folder, self.kit, self.is_built = folder, kit, is_built
+    def __init__(self, folder: pathlib.Path, kit: pathlib.Path, is_built: bool, keep: pathlib.Path | None) -> None:
+        self.folder, self.kit, self.is_built, self.keep = folder, kit, is_built, keep
         self.lock, self.running, self.is_over = threading.Lock(), set[subprocess.Popen[str]](), False
         # What the checks of each crate took of a processor.
         self.seconds: dict[str, float] = {}
@@ -414,7 +421,12 @@ class Checks:
             (place / file).write_text("\n".join(lines), encoding="utf-8")
         only = dict.fromkeys(owner.name for bug in bugs for owner in bug.owners)
         words = [*self.words(source.crate), "--incremental", str(place / "out" / "incremental"), *(it for name in only for it in ("--only", name))]
-        return self.run(words, place)
+        said = self.run(words, place)
+        if self.keep:
+            number = len(list(self.keep.glob(f"{source.crate}.*")))
+            heads = [f"{bug.name}: {', '.join(it.name for it in bug.owners)}" for bug in bugs]
+            (self.keep / f"{source.crate}.{number}").write_text("\n".join([*heads, "", *said.lines, f"status {said.status}"]), encoding="utf-8")
+        return said
 
 
 # What a check says of bugs.
@@ -422,11 +434,17 @@ class Checks:
 
 def goals_of(bug: Bug, said: Said) -> list[str]:
     """The goals of a bug's own functions that are open, and then the answers in their proofs that fail."""
-    places = [(OPEN_GOAL.match(line), line) for line in said.lines]
-    own = [at for at, _ in places if at and any(it.file == at[1] and it.first < int(at[2]) <= it.last + 1 for it in bug.owners)]
-    answers = [(FAILED_ANSWER.match(line), line) for line in said.lines]
+    goals, answers = [], []
     proofs = [it.proofs for it in bug.owners]
-    return [f"{at[1]}:{at[2]}: {at[3]}" for at in own] + [line.removeprefix("./") for at, line in answers if at and at[1] in proofs]
+    for line in said.lines:
+        goal, open_answer, answer = OPEN_GOAL.match(line), UNANSWERED.match(line), FAILED_ANSWER.match(line)
+        if goal and any(it.file == goal[1] and it.first < int(goal[2]) <= it.last + 1 for it in bug.owners):
+            goals.append(f"{goal[1]}:{goal[2]}: {goal[3]}")
+        elif open_answer and open_answer[2] in proofs:
+            answers.append(f"{open_answer[2]}: {open_answer[1]} has no proof")
+        elif answer and answer[1] in proofs:
+            answers.append(line.removeprefix("./"))
+    return goals + answers
 
 
 def judge(bug: Bug, said: Said) -> None:
@@ -453,9 +471,11 @@ def judge_alone(bug: Bug, said: Said) -> None:
 
 
 def try_batch(checks: Checks, source: Source, bugs: list[Bug]) -> None:
-    """Tries bugs at once. Where the prover comes to no end, one half and then the other, so that one bug fails alone."""
+    """Tries bugs at once. Where the prover comes to no end, or a lemma fails that several functions may need, it tries one half and then the
+    other, until such a bug is alone."""
     said = checks.check(source, bugs)
-    if said.judges:
+    lemma = next(filter(FAILED_LEMMA.match, said.lines), "")
+    if said.judges and (len(bugs) == 1 or not lemma):
         for bug in bugs:
             judge(bug, said)
     elif len(bugs) == 1:
@@ -530,21 +550,21 @@ def skip_unchanged(crates: list[str], sums: dict[str, str]) -> tuple[list[str], 
     return wanted, skipped
 
 
-def try_all(crates: list[str], sums: dict[str, str], jobs: int, is_built: bool) -> list[Bug]:
+def try_all(crates: list[str], sums: dict[str, str], said: argparse.Namespace) -> list[Bug]:
     """Tries the bugs of these crates, in a folder that is removed at any end."""
     bugs = {it: bugs_of(it) for it in crates}
     kit = pathlib.Path(subprocess.run(["rt", "doc"], check=True, text=True, stdout=subprocess.PIPE).stdout.strip()).parent
     with tempfile.TemporaryDirectory(prefix="tmx-bugs-") as folder:
-        checks = Checks(pathlib.Path(folder), kit, is_built)
+        checks = Checks(pathlib.Path(folder), kit, said.built, said.keep)
         try:
-            fault = checks.make_libraries(crates, jobs)
+            fault = checks.make_libraries(crates, said.jobs)
             if fault:
                 print(fault)
                 for it in (bug for several in bugs.values() for bug in several):
                     it.outcome, it.why = UNTRIED, "there are no libraries"
                     print(it)
             else:
-                try_crates(checks, bugs, sums, max(1, min(jobs, free_memory() // MEMORY)))
+                try_crates(checks, bugs, sums, max(1, min(said.jobs, free_memory() // MEMORY)))
         finally:
             checks.end()
     return [it for several in bugs.values() for it in several]
@@ -557,6 +577,7 @@ def main() -> int:
     parser.add_argument("--all", action="store_true", help="try the bugs of all crates, whether or not they have changed")
     parser.add_argument("--built", action="store_true", help="take the libraries that `rt lib` keeps in out/")
     parser.add_argument("--jobs", type=int, default=len(os.sched_getaffinity(0)), help="so many checks at once")
+    parser.add_argument("--keep", type=pathlib.Path, metavar="FOLDER", help="keep what each check says in this folder")
     said = parser.parse_args()
     for number in (signal.SIGTERM, signal.SIGHUP):
         signal.signal(number, lambda *_: sys.exit(1))
@@ -564,7 +585,7 @@ def main() -> int:
     crates = said.crates or having
     sums = {it: sum_of(it, version) for it in crates}
     wanted, skipped = (crates, 0) if said.all or said.crates else skip_unchanged(crates, sums)
-    tried = try_all(wanted, sums, said.jobs, said.built) if wanted else []
+    tried = try_all(wanted, sums, said) if wanted else []
     failed = [it for it in tried if it.outcome != REFUSED]
     print(f"{len(tried) - len(failed)} passed, {len(failed)} failed, {skipped} skipped")
     return 1 if failed else 0

@@ -262,6 +262,8 @@ try_test() {
     tell "./test quick in order" "$(tail -n 2 said | diff - <(printf '%s\n' "nothing was proved: ./test does that" "21 passed, 0 failed, 6 skipped"))"
     copy_of_test trials/unproved.sh <<<'rm "$2"; echo "3 passed, 0 failed, 0 skipped"'
     tell_failed "./test quick where no program is made" "$(ended $? said)"
+    copy_of_test rt <<<'printf "%s\n" "rt: must-fail tm_low/late.edit: BAD EDIT: it changes nothing" "3 passed, 0 failed"'
+    tell_failed "./test where rt can't try a wrong body" "$(ended $? said)"
     wrong_end "is killed" 'kill -KILL $$'
     wrong_end "is killed behind its last line" 'echo "3 passed, 0 failed"; kill -KILL $$'
     wrong_end "says nothing" 'exit 0'
@@ -380,8 +382,8 @@ for group in "$@"; do
     fi
 done
 try_groups "${groups[@]}"
-# 20 rules, 31 ends of ./test, 8 of planted bugs, and the cases of all groups.
-planned=$((20 + 31 + 8 + $(for group in "$@"; do cases_of "$group"; done | wc -w)))
+# 20 rules, 32 ends of ./test, 8 of planted bugs, and the cases of all groups.
+planned=$((20 + 32 + 8 + $(for group in "$@"; do cases_of "$group"; done | wc -w)))
 tried=$((passed + failed + skipped))
 tell "all of it is tried" "$([ $tried = $planned ] || echo "$tried trials are made, and $planned planned")"
 echo "$passed ok, $failed failed, $skipped skipped"

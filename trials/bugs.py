@@ -296,12 +296,12 @@ def files_of(crate: str, *parts: str) -> list[pathlib.Path]:
     return sorted(it for part in parts for it in (CRATES / crate / part).rglob("*") if it.is_file())
 
 
-def sum_of(crate: str, kit: str) -> str:
+def sum_of(crate: str, version: str) -> str:
     """A sum of all that the check of a crate with its bugs reads. Of the crates below these are not the proofs of their functions."""
     own = files_of(crate, *PARTS, "bugs")
     below = [it for low in all_below(crate) for it in files_of(low, *PARTS) if it.name not in OWN_PROOFS]
     used = [(it, crates_below()[it]) for it in [*all_below(crate), crate]]
-    made = hashlib.sha256(repr((JUDGED, kit, used)).encode())
+    made = hashlib.sha256(repr((JUDGED, version, used)).encode())
     for path in [*own, *below]:
         made.update(repr((path.relative_to(ROOT).as_posix(), path.read_bytes())).encode())
     return made.hexdigest()
@@ -518,8 +518,9 @@ def tell(checks: Checks, crate: str, bugs: list[Bug], done: str) -> bool:
     return refused == len(bugs)
 
 
-def try_crates(checks: Checks, bugs: dict[str, list[Bug]], sums: dict[str, str], jobs: int) -> None:
-    """Tries the bugs of crates side by side, the crates with the most of them first."""
+def try_crates(checks: Checks, bugs: dict[str, list[Bug]], version: str, jobs: int) -> None:
+    """Tries the bugs of crates side by side, the crates with the most of them first. A crate that changes meanwhile isn't recorded."""
+    sums = {it: sum_of(it, version) for it in bugs}
     began = time.monotonic()
     order = sorted(bugs, key=lambda it: -len(bugs[it]))
     with concurrent.futures.ThreadPoolExecutor(jobs) as pool:
@@ -528,20 +529,22 @@ def try_crates(checks: Checks, bugs: dict[str, list[Bug]], sums: dict[str, str],
             for done, run in enumerate(concurrent.futures.as_completed(runs), 1):
                 run.result()
                 minutes = (time.monotonic() - began) / 60
-                if tell(checks, runs[run], bugs[runs[run]], f"crate {done} of {len(bugs)}, {minutes:.0f} minutes so far"):
-                    record(runs[run], sums[runs[run]])
+                crate = runs[run]
+                is_refused = tell(checks, crate, bugs[crate], f"crate {done} of {len(bugs)}, {minutes:.0f} minutes so far")
+                if is_refused and sum_of(crate, version) == sums[crate]:
+                    record(crate, sums[crate])
         except BaseException:
             checks.end()
             pool.shutdown(cancel_futures=True)
             raise
 
 
-def skip_unchanged(crates: list[str], sums: dict[str, str]) -> tuple[list[str], int]:
+def skip_unchanged(crates: list[str], version: str) -> tuple[list[str], int]:
     """The crates that have to be tried, and how many bugs are left out, which it says."""
     known, wanted, skipped = record_read(), [], 0
     for crate in crates:
         day, made = known.get(crate, ("", ""))
-        if made != sums[crate]:
+        if made != sum_of(crate, version):
             wanted.append(crate)
             continue
         many = len(list((CRATES / crate / "bugs").iterdir()))
@@ -550,7 +553,7 @@ def skip_unchanged(crates: list[str], sums: dict[str, str]) -> tuple[list[str], 
     return wanted, skipped
 
 
-def try_all(crates: list[str], sums: dict[str, str], said: argparse.Namespace) -> list[Bug]:
+def try_all(crates: list[str], version: str, said: argparse.Namespace) -> list[Bug]:
     """Tries the bugs of these crates, in a folder that is removed at any end."""
     bugs = {it: bugs_of(it) for it in crates}
     kit = pathlib.Path(subprocess.run(["rt", "doc"], check=True, text=True, stdout=subprocess.PIPE).stdout.strip()).parent
@@ -564,7 +567,7 @@ def try_all(crates: list[str], sums: dict[str, str], said: argparse.Namespace) -
                     it.outcome, it.why = UNTRIED, "there are no libraries"
                     print(it)
             else:
-                try_crates(checks, bugs, sums, max(1, min(said.jobs, free_memory() // MEMORY)))
+                try_crates(checks, bugs, version, max(1, min(said.jobs, free_memory() // MEMORY)))
         finally:
             checks.end()
     return [it for several in bugs.values() for it in several]
@@ -583,9 +586,8 @@ def main() -> int:
         signal.signal(number, lambda *_: sys.exit(1))
     version = subprocess.run(["rt", "version"], check=True, text=True, stdout=subprocess.PIPE).stdout.strip()
     crates = said.crates or having
-    sums = {it: sum_of(it, version) for it in crates}
-    wanted, skipped = (crates, 0) if said.all or said.crates else skip_unchanged(crates, sums)
-    tried = try_all(wanted, sums, said) if wanted else []
+    wanted, skipped = (crates, 0) if said.all or said.crates else skip_unchanged(crates, version)
+    tried = try_all(wanted, version, said) if wanted else []
     failed = [it for it in tried if it.outcome != REFUSED]
     print(f"{len(tried) - len(failed)} passed, {len(failed)} failed, {skipped} skipped")
     return 1 if failed else 0

@@ -229,7 +229,8 @@ def changed_lines(source: Source, text: str) -> dict[tuple[str, int], str]:
         if edited[path].count(old) != 1:
             raise Unusable(f"an `old:` text is in {path} {edited[path].count(old)} times, and not once")
         edited[path] = edited[path].replace(old, new)
-    rows = ((path, zip(source.texts[path].split("\n"), edited[path].split("\n"))) for path in edited)
+    touched = [path for path in edited if edited[path] != source.texts[path]]
+    rows = ((path, zip(source.texts[path].split("\n"), edited[path].split("\n"))) for path in touched)
     changed = {(path, number): after for path, both in rows for number, (before, after) in enumerate(both) if before != after}
     if not changed:
         raise Unusable("it changes nothing")
@@ -506,7 +507,7 @@ def free_memory() -> int:
 
 def bugs_of(crate: str) -> list[Bug]:
     source = Source(crate)
-    return [bug_of(source, it) for it in sorted((CRATES / crate / "bugs").iterdir())]
+    return [bug_of(source, it) for it in sorted((CRATES / crate / "bugs").glob("*"))]
 
 
 def tell(checks: Checks, crate: str, bugs: list[Bug], done: str) -> bool:

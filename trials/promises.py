@@ -14,7 +14,8 @@ Among them have to be all public functions that have a contract.
 
 What PROVED.md and clauses.txt name has to be there: definitions, in the file of specs/ that is linked; functions, in their file of src/, and their
 clauses, at least one if none is named; functions and trials of the section on what the contracts let through. The files and headings that any page links
-to have to be there, too. Three tables of docs/ARCHITECTURE.md have to have the files that name what came last, and no others.
+to have to be there, too. Three tables of docs/ARCHITECTURE.md have to have the files that name what came last, and no others. Each planted bug
+has to fit the sources as they are.
 
 Public are the functions that a crate's lib.rt hands out, by name or in a `pub mod`, and those of the types and traits that it hands out.
 Those that a derive or an `impl` of std's traits gives aren't: they have no contract of their own. The functions of tm_tests and
@@ -29,6 +30,7 @@ import sys
 import textwrap
 from dataclasses import dataclass, field
 
+import bugs
 import names
 
 ROOT = pathlib.Path(__file__).resolve().parent.parent
@@ -296,6 +298,18 @@ def wrong_guards(entries, guards):
             yield f"PROVED.md line {entry.line}: " + ("what is guarded says that it isn't" if entry.anchor in guarded else "nothing guards it")
 
 
+def wrong_edits():
+    """Planted bugs that can't be applied to the sources as they are."""
+    for crate in sorted({path.parts[-3] for path in CRATES.glob("*/*/*.edit")}):
+        source = bugs.Source(crate)
+        yield from (f"{crate}/bugs/{it.name}: {it.why}" for it in bugs.bugs_of(crate) if it.outcome)
+        for path in sorted(CRATES.glob(f"{crate}/must-fail/*.edit")):
+            try:
+                bugs.changed_lines(source, read(path))
+            except bugs.Unusable as fault:
+                yield f"{crate}/must-fail/{path.stem}: {fault}"
+
+
 def by_file(items, crate):
     """A part of the made page: links to files, each with what is named of it. Another crate's name stands before the file's."""
     files = {}
@@ -415,6 +429,7 @@ def main(words):
         print("usage: promises.py [--write]", file=sys.stderr)
         return 2
     found = judge(read(PAGE), words == ["--write"])
+    found["each planted bug can be applied"] = list(wrong_edits())
     found["each link of each page leads somewhere"] = [f"{page.relative_to(ROOT)}: {it}" for page in pages() for it in wrong_links(page)]
     found["ARCHITECTURE.md: each place is in its table"] = [f"ARCHITECTURE.md: {it}" for table in TABLES for it in wrong_places(*table)]
     for what, faults in found.items():

@@ -109,8 +109,9 @@ class Growing(TestCase):
         return sum(it % 300 == BAD for it in range(records))
 
     def test_a_page(self) -> None:
-        for _ in range(3):
-            self.assertEqual(command("report", "--json", "--settings", SETTINGS, "pass.rec", out="json"), (0, ""))
+        on_board = ("--time", "SECONDS,FRACTION", "--definition", ATTITUDE, "--apid", 101, "--epoch", "2000-01-01")
+        for words in ((), on_board):
+            self.assertEqual(command("report", "--json", *words, "--settings", SETTINGS, "pass.rec", out="json"), (0, ""))
             found = json.loads(Path("json").read_text())["recording"]
             records = found["octets"] // 256
             self.assertEqual((found["counts"]["records"], found["counts"]["bad"]), (records, self.bad(records)))

@@ -6,7 +6,7 @@ pub returns-in-Ok : goal.returns-in-Ok
 returns-in-Ok c =
     let ok = c.in-Ok.ensures in
     let (took, count, kept, totals) = gave c.args.command c.args.chunk.last c.args.job _ _ c.requires ok.sound _ _ _ _ _ _ _ c.chunk_ending-ending.ensures ok.ran in
-    let rooms = c.run.new in
+    let rooms = c.run_and_count.new in
     record {
       out = rw (c.out-in-Ok-2-1.given.1.1 (sym (ok.same_out ∙ c.new-out.ensures.same_octets)), c.length.ensures)
           (holds rooms.out.octets.now rooms.out.overflow.now.items _ rooms.out.filled rooms.out.within rooms.out.full (written_first _ _ _ _ _ c.new-out.ensures.filled c.new-out.ensures.overflow took.0));

@@ -121,6 +121,13 @@ U32, F64 = '<IntegerDataEncoding sizeInBits="32"/>', '<FloatDataEncoding sizeInB
 OF_2000 = "<Epoch>2000-01-01</Epoch>"
 SECONDS = (1167264018).to_bytes(4, "big")  # of GPS, where 2017 began
 
+
+
+def wide(encoding: str, more: str = "", size: int = 48) -> str:
+    """The type of a text of so many bits, in an encoding of more than an octet."""
+    return TEXT.format(f'encoding="{encoding}" {more}', "").replace(">32<", f">{size}<")
+
+
 VALUES = (
     (INTEGER.format(16, "", ""), b"\xff\xfe", 65534),
     (INTEGER.format(12, 'encoding="twosComplement"', ""), b"\xff\xef", -2),
@@ -143,6 +150,19 @@ VALUES = (
     (TEXT.format('encoding="US-ASCII"', "<TerminationChar>00</TerminationChar>"), b"ab\0x", "ab"),
     (TEXT.format('encoding="UTF-16BE"', ""), b"\0a\0b", "ab"),
     (TEXT.format('encoding="US-ASCII"', ""), b"ab\xffd", "ab\N{REPLACEMENT CHARACTER}d"),
+    (wide("UTF-16"), bytes.fromhex("0062 0063 03a9"), "bcΩ"),
+    (wide("UTF-16", 'byteOrder="mostSignificantByteFirst"'), bytes.fromhex("0062 0063 03a9"), "bcΩ"),
+    (wide("UTF-16", 'byteOrder="leastSignificantByteFirst"'), bytes.fromhex("6200 6300 a903"), "bcΩ"),
+    (wide("UTF-16", 'byteOrder="leastSignificantByteFirst"'), bytes.fromhex("feff 0062 03a9"), "bΩ"),
+    (wide("UTF-16"), bytes.fromhex("fffe 6200 a903"), "bΩ"),
+    (wide("UTF-16"), bytes.fromhex("feff 0062 feff"), "b\N{ZERO WIDTH NO-BREAK SPACE}"),
+    (wide("UTF-16LE", 'byteOrder="leastSignificantByteFirst"'), bytes.fromhex("6200 6300 a903"), "bcΩ"),
+    (wide("UTF-16LE"), bytes.fromhex("6200 6300 a903"), "bcΩ"),
+    (wide("UTF-16BE"), bytes.fromhex("0062 0063 03a9"), "bcΩ"),
+    (wide("UTF-32", size=64), bytes.fromhex("00000062 0001f600"), "b\N{GRINNING FACE}"),
+    (wide("UTF-32", 'byteOrder="leastSignificantByteFirst"', 64), bytes.fromhex("62000000 00f60100"), "b\N{GRINNING FACE}"),
+    (wide("UTF-32", size=64), bytes.fromhex("fffe0000 62000000"), "b"),
+    (wide("UTF-32", 'byteOrder="leastSignificantByteFirst"', 64), bytes.fromhex("0000feff 00000062"), "b"),
     (BINARY.format(24), b"\0\xff\x80", b"\0\xff\x80"),
     (TIME.format("", U32, "<Epoch>UNIX</Epoch>"), (946684800).to_bytes(4, "big"), datetime(2000, 1, 1)),
     (TIME.format("", U32, "<Epoch>GPS</Epoch>"), SECONDS, datetime(2017, 1, 1)),
@@ -205,6 +225,10 @@ REFUSED = (
     (one(TEXT.format("", "").replace("Fixed>", "Dynamic>")), "/Sat/A: the size is not fixed"),
     (one(TEXT.format("", "<LeadingSize/>")), "/Sat/A: a text with a leading size is not read"),
     (one(TEXT.format('encoding="EBCDIC-7"', "")), "/Sat/A: the encoding EBCDIC-7 is not known"),
+    (one(TEXT.format('encoding="hex"', "")), "/Sat/A: the encoding hex is not known"),
+    (one(TEXT.format('encoding="idna"', "")), "/Sat/A: the encoding idna is not known"),
+    (one(TEXT.format(f'encoding="UTF-16BE" {LITTLE}', "")), "/Sat/A: the byte order leastSignificantByteFirst is not read"),
+    (one(TEXT.format(f'encoding="UTF-8" {LITTLE}', "")), "/Sat/A: the byte order leastSignificantByteFirst is not read"),
     (one(TEXT.format('encoding="UTF-16"', "<TerminationChar>00</TerminationChar>")), "/Sat/A: the end '00' of a text in utf-16"),
     (one(BINARY.format(12)), "/Sat/A: 12 bits are no whole octets"),
     (one(BINARY.format("8").replace("<FixedValue>8</FixedValue>", DYNAMIC)), "/Sat/A: the size is not fixed"),

@@ -1,5 +1,6 @@
 """What raw values of fields mean: labels, calibrated values, texts and times, each in a column before its raw one."""
 
+import codecs
 import math
 from bisect import bisect_right
 from collections.abc import ItemsView, Iterable, Mapping, Sequence, Set, ValuesView
@@ -18,6 +19,7 @@ if TYPE_CHECKING:
     from .fields import Fields
 
 RAW = "_raw"  # how the name of a raw column ends
+MARKS = {"utf-16": (codecs.BOM_UTF16_BE, codecs.BOM_UTF16_LE), "utf-32": (codecs.BOM_UTF32_BE, codecs.BOM_UTF32_LE)}
 
 
 class Names(Protocol):
@@ -206,15 +208,26 @@ class Truth:
 
 @dataclass(frozen=True)
 class Text:
-    """A text in an encoding, which may end before its field does.  What isn't in the encoding is shown by a replacement character."""
+    """A text in an encoding, which may end before its field does.  What isn't in the encoding is shown by a replacement character.
+
+    In `utf-16` and `utf-32` a byte order mark at the text's beginning tells the order of its octets, and is no part of the text.
+    Without the mark the most significant octet comes first, or with `is_little` the least significant one.
+    """
 
     encoding: str
     end: bytes | None = None
+    is_little: bool = False
     type = "text"
 
     def values(self, name: str, raw: Any) -> Any:
         octets = (it if self.end is None else it.partition(self.end)[0] for it in raw)
-        return objects([it.decode(self.encoding, "replace") for it in octets])
+        return objects([it.decode(self.encoding_of(it), "replace") for it in octets])
+
+    def encoding_of(self, octets: bytes) -> str:
+        marks = MARKS.get(self.encoding)
+        if marks is None or octets.startswith(marks):
+            return self.encoding
+        return f"{self.encoding}-{'le' if self.is_little else 'be'}"
 
 
 @dataclass(frozen=True)

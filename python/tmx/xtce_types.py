@@ -26,6 +26,8 @@ ALLOWED = {  # which encodings a type may have
     "AbsoluteTimeParameterType": NUMBERS,
 }
 CALIBRATED = ("IntegerParameterType", "FloatParameterType")
+MOST_FIRST, LEAST_FIRST = "mostSignificantByteFirst", "leastSignificantByteFirst"
+LITTLE = ("utf-16", "utf-16-le", "utf-32", "utf-32-le")  # encodings in which the least significant octet may come first
 SINGLE = ("utf-8", "ascii", "iso8859-1", "cp1252")  # encodings in which an octet ends a text
 SECONDS = {"seconds": Fraction(1), "picoSeconds": Fraction(1, 10**12), "days": Fraction(86400)}  # units of times
 EPOCHS = {"TAI": "TAI", "GPS": "GPS", "J2000": "J2000", "UNIX": "UNIX", "POSIX": "UNIX"}
@@ -158,16 +160,22 @@ def octets(bits: int, path: str) -> int:
 
 
 def refuse_orders(encoding: Element, path: str) -> None:
-    """Refuses what doesn't have the most significant bit first, or has check bits."""
+    """Refuses what doesn't have the most significant bit first, or has check bits.  Some texts may have the least octet first."""
     several = encoding.get("sizeInBits", "16") != "8"
     if encoding.get("bitOrder", "mostSignificantBitFirst") != "mostSignificantBitFirst":
         raise XtceError(path, "the least significant bit comes first, which is not read")
-    if several and encoding.get("byteOrder", "mostSignificantByteFirst") != "mostSignificantByteFirst":
+    if several and encoding.get("byteOrder", MOST_FIRST) not in (MOST_FIRST, *little_of(encoding, path)):
         raise XtceError(path, f"the byte order {encoding.get('byteOrder')} is not read")
     if several and child(encoding, "ByteOrderList") is not None:
         raise XtceError(path, "a ByteOrderList is not read")
     if child(encoding, "ErrorDetectCorrect") is not None:
         raise XtceError(path, "ErrorDetectCorrect is not read")
+
+
+def little_of(encoding: Element, path: str) -> tuple[str, ...]:
+    """The other byte order, of a text whose encoding has one."""
+    is_wide = local(encoding) == "StringDataEncoding" and encoding_named(encoding, path) in LITTLE
+    return (LEAST_FIRST,) if is_wide else ()
 
 
 def refuse_calibrators(encoding: Element, kind: str, path: str) -> None:
@@ -227,14 +235,21 @@ def labels(enumerations: Element | None, path: str) -> Labels:
     return Labels(found)
 
 
-def text(encoding: Element, path: str) -> Text:
+def encoding_named(encoding: Element, path: str) -> str:
+    """The encoding of a text, as Python names it.  Raises XtceError where Python has none that decodes any octets."""
     try:
         name = codecs.lookup(encoding.get("encoding", "UTF-8")).name
-    except LookupError:
+        b"\xff[0".decode(name, "replace")
+    except (LookupError, UnicodeError):
         raise XtceError(path, f"the encoding {encoding.get('encoding')} is not known") from None
+    return name
+
+
+def text(encoding: Element, path: str) -> Text:
+    name = encoding_named(encoding, path)
     end = child(encoding, "SizeInBits", "TerminationChar")
     if end is None:
-        return Text(name)
+        return Text(name, is_little=encoding.get("byteOrder") == LEAST_FIRST)
     try:
         octets = bytes.fromhex(end.text or "")
     except ValueError:

@@ -102,6 +102,7 @@ POLYNOMIAL = (
     '<PolynomialCalibrator><Term coefficient="0.5" exponent="2"/><Term coefficient="-3" exponent="0"/></PolynomialCalibrator>'
 )
 SPLINE = '<SplineCalibrator {}><SplinePoint raw="2" calibrated="10"/><SplinePoint raw="4" calibrated="20"/></SplineCalibrator>'
+SPLINE_OF = SPLINE.replace('raw="2"', 'raw="2" order="{}"').replace('raw="4"', 'raw="4" order="{}"')
 ENUMERATED = (
     '<EnumeratedParameterType name="T"><IntegerDataEncoding/><EnumerationList><Enumeration value="1" label="ON"/>'
     '<Enumeration value="0x10" maxValue="0x1F" label="SAFE"/></EnumerationList></EnumeratedParameterType>'
@@ -138,6 +139,8 @@ VALUES = (
     (INTEGER.format(8, "", CALIBRATED.format(SPLINE.format(""))), b"\x05\0", None),
     (INTEGER.format(8, "", CALIBRATED.format(SPLINE.format('extrapolate="true"'))), b"\x05\0", 25.0),
     (INTEGER.format(8, "", CALIBRATED.format(SPLINE.format('order="0"'))), b"\x03\0", 10.0),
+    (INTEGER.format(8, "", CALIBRATED.format(SPLINE_OF.format("", 0, 0))), b"\x03\0", 10.0),
+    (INTEGER.format(8, "", CALIBRATED.format(SPLINE_OF.format('order="0"', 1, 1))), b"\x03\0", 15.0),
     (FLOAT.format(32, ""), struct.pack(">f", 1.25), 1.25),
     (FLOAT.format(16, 'encoding="IEEE754"'), struct.pack(">e", -0.5), -0.5),
     (FLOAT.format(64, 'encoding="IEEE754_1985"'), struct.pack(">d", 0.1), 0.1),
@@ -215,6 +218,9 @@ REFUSED = (
     (one(INTEGER.format(8, "", "<ContextCalibratorList/>")), "/Sat/A: context calibrators are not read"),
     (one(INTEGER.format(8, "", CALIBRATED.format("<MathOperationCalibrator/>"))), "/Sat/A: its calibrator is neither"),
     (one(INTEGER.format(8, "", CALIBRATED.format(SPLINE.format('order="2"')))), "/Sat/A: a spline is of order 0 or 1, and not 2"),
+    (one(INTEGER.format(8, "", CALIBRATED.format(SPLINE_OF.format("", 2, 2)))), "/Sat/A: a spline is of order 0 or 1, and not 2"),
+    (one(INTEGER.format(8, "", CALIBRATED.format(SPLINE_OF.format("", 0, 1)))), "/Sat/A: a spline whose points have the orders 0 and 1"),
+    (one(INTEGER.format(8, "", CALIBRATED.format(SPLINE_OF.format("", 1, "x")))), "/Sat/A: 'x' is no whole number"),
     (one(INTEGER.format(8, "", CALIBRATED.format(POLYNOMIAL.replace('"2"', '"-2"')))), "/Sat/A: a term of exponent -2 is out"),
     (one(INTEGER.format("many", "", "")), "/Sat/A: 'many' is no whole number"),
     (one(FLOAT.format(32, 'encoding="MILSTD_1750A"')), "/Sat/A: a float MILSTD_1750A of 32 bits is not read"),
@@ -309,6 +315,18 @@ class System(TestCase):
         with self.assertRaisesRegex(tmx.XtceError, "^/Sat/PACKET: its packets have no application"):
             table(one(BYTE), b"ab", container="PACKET")
         self.assertEqual(plain(table(one(BYTE), b"ab", container="PACKET", apid=300)["LENGTH"]), [1])
+
+    def test_an_application_that_is_said_too(self) -> None:
+        """The container C has the application 300 by its restriction, and PACKET has none."""
+        self.assertEqual(plain(table(one(BYTE), b"ab", apid=300)["A"]), [97])
+        for wrong in (301, 0, 2047):
+            with self.assertRaisesRegex(tmx.XtceError, f"^/Sat/C: its packets have the application 300, and apid says {wrong}$"):
+                table(one(BYTE), b"ab", apid=wrong)
+            with self.assertRaisesRegex(tmx.XtceError, "the application 300"):
+                next(written(one(BYTE)).blocks(recording_of([b"ab"]), "C", 5, apid=wrong))
+        for container in ("C", "PACKET"):
+            self.raises(ValueError, None, table, one(BYTE), b"ab", container=container, apid=2048)
+            self.raises(TypeError, None, table, one(BYTE), b"ab", container=container, apid="300")
 
     def test_containers(self) -> None:
         """Two levels of bases, each with entries and a restriction, and a container within another."""

@@ -17,7 +17,8 @@ from dataclasses import dataclass
 from tempfile import NamedTemporaryFile
 from typing import Any
 
-from .arguments import Number, Numbers
+from .arguments import APPLICATIONS, Number, Numbers
+from .arguments import number as number_in
 from .decoding import RAW, Decoder, Labels, Text, Timed, Truth, decoded, rows_where
 from .fields import Fields
 from .progress import Progress
@@ -171,7 +172,8 @@ class System:
         """The decoded table of a container's packets.
 
         A parameter's value stands in the column of its name; where that is decoded, the raw one stands behind it.  If a container
-        has one absolute time, that is also the time of each row.  `apid` says the application where the container doesn't.
+        has one absolute time, that is also the time of each row.  `apid` says the application where the container doesn't; where
+        it does, another number is refused.
 
         Raises XtceError, and what `Recording.fields` raises.
         """
@@ -200,9 +202,11 @@ class System:
     def wanted(self, container: str, apid: Number | None) -> tuple[list[Field], Number, list[Condition]]:
         """The same as `asked`, with an application."""
         fields, said, conditions = self.asked(container)
-        number = said if apid is None else apid
+        number = said if apid is None else number_in("apid", apid, APPLICATIONS)
         if number is None:
             raise XtceError(self.path(container), "its packets have no application: say one by apid")
+        if said is not None and number != said:
+            raise XtceError(self.path(container), f"its packets have the application {said}, and apid says {number}")
         return fields, number, conditions
 
 

@@ -210,9 +210,19 @@ def calibrator(default: Element | None, path: str) -> Decoder | None:
         raise XtceError(path, "its calibrator is neither a polynomial nor a spline")
     found = [(real(it.get("raw"), path), real(it.get("calibrated"), path)) for it in children(spline, "SplinePoint")]
     try:
-        return Spline(tuple(found), integer(spline.get("order", "1"), path), says(spline, "extrapolate", False))
+        return Spline(tuple(found), order_of(spline, path), says(spline, "extrapolate", False))
     except ValueError as error:
         raise XtceError(path, str(error)) from None
+
+
+def order_of(spline: Element, path: str) -> int:
+    """The order of a spline, which its points may say instead.  Raises XtceError where they say several."""
+    whole = integer(spline.get("order", "1"), path)
+    orders = {integer(it.get("order", str(whole)), path) for it in children(spline, "SplinePoint")} or {whole}
+    if len(orders) > 1:
+        said = " and ".join(map(str, sorted(orders)))
+        raise XtceError(path, f"a spline whose points have the orders {said} is not read: all need the same one")
+    return orders.pop()
 
 
 def coefficients(polynomial: Element, path: str) -> tuple[float, ...]:

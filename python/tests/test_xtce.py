@@ -1,5 +1,6 @@
 """XTCE files: each construct and each refusal once, and random systems whose packets are made here."""
 
+import copy
 import io
 import math
 import os
@@ -9,8 +10,11 @@ import time
 import unittest
 from datetime import datetime, timedelta
 from pathlib import Path
+from unittest import mock
+from xml.etree.ElementTree import Element, fromstring, tostring
+from xml.sax.saxutils import quoteattr
 
-from support import TestCase, command, needs, tmx
+from support import EXAMPLE, TestCase, command, needs, tmx
 
 from test_decoding import WithModules, dates
 
@@ -75,11 +79,11 @@ def written(text: str) -> tmx.xtce.System:
 # Packets.
 
 
-def recording_of(payloads: list[bytes]) -> tmx.Recording:
+def recording_of(payloads: list[bytes], apid: int = APID) -> tmx.Recording:
     """A recording of frames that have one packet each."""
     frames = []
     for number, payload in enumerate(payloads):
-        packet = struct.pack(">HHH", APID, 0xC000 | (COUNT + number) % 16384, len(payload) - 1) + payload
+        packet = struct.pack(">HHH", apid, 0xC000 | (COUNT + number) % 16384, len(payload) - 1) + payload
         frames.append(struct.pack(">HBBH", 42 << 4, number % 256, number % 256, 0) + packet)
     return tmx.Recording(io.BytesIO(b"".join(frames)), tmx.Settings(42, 12 + len(payloads[0]), False))
 
@@ -149,6 +153,8 @@ VALUES = (
     (ENUMERATED, b"\x01\0", "ON"),
     (ENUMERATED, b"\x1f\0", "SAFE"),
     (ENUMERATED, b"\x20\0", None),
+    (ENUMERATED.replace("0x10", "0b11").replace("0x1F", "0o17"), b"\x0f\0", "SAFE"),
+    (ENUMERATED.replace("0x10", "1").replace(' maxValue="0x1F"', ""), b"\x01\0", "ON"),
     (TEXT.format("", ""), b"ab\xc3\xa9", "abé"),
     (TEXT.format('encoding="US-ASCII"', "<TerminationChar>00</TerminationChar>"), b"ab\0x", "ab"),
     (TEXT.format('encoding="UTF-16BE"', ""), b"\0a\0b", "ab"),
@@ -261,6 +267,17 @@ REFUSED = (
     (one(BYTE, "<ParameterSegmentRefEntry/>"), "/Sat/C: ParameterSegmentRefEntry is not read"),
     (one(BYTE, entries("A") * 2), "/Sat/C: the parameter /Sat/A stands in it twice"),
     (one(BYTE, entries("B")), "/Sat/C: there is no parameter 'B'"),
+    (one(BYTE, entries("../../X")), "/Sat/C: there is no parameter '../../X'"),
+    (one(BYTE, entries("../../../A")), "/Sat/C: there is no parameter '../../../A'"),
+    (one(INTEGER.format("1_6", "", "")), "/Sat/A: '1_6' is no whole number"),
+    (one(INTEGER.format("0x" + "0" * 5000 + "8", "", "")), "/Sat/A: '0x0000"),
+    (one(ENUMERATED.replace("0x1F", "0x0F")), "/Sat/A: an enumeration's values from 16 to 15 are none"),
+    (one(INTEGER.format(8, "", CALIBRATED.format(SPLINE.format("").replace('"4"', '"nan"')))), "/Sat/A: 'nan' is no finite number"),
+    (one(TIME.format('scale="1e999999999"', U32, "<Epoch>UNIX</Epoch>")), "/Sat/A: the scale, the offset or the epoch 'UNIX'"),
+    (one(BYTE, LOCATED.format("", 8 * 65542 - 48 - 7)), "/Sat/A: it ends at bit 524337, and a packet has at most 524336 bits"),
+    (one(BYTE, LOCATED.format("", 2**62)), "/Sat/A: it ends at bit 4611686018427387960, and a packet has at most 524336 bits"),
+    (one(BINARY.format(8 * 65542)), "/Sat/A: it ends at bit 524384, and a packet has at most 524336 bits"),
+    (one(BYTE, entries("N" * 1_048_576)).replace('name="A"', f'name="{"N" * 1_048_576}"'), "/Sat/C: its definition has 1048"),
     (one("", entries("A")), "/Sat/A: there is no type 'T'"),
     (system("", "", container("C", "", base="D")), "/Sat/C: there is no container 'D'"),
     (system("", "", container("C", "", base="C")), "/Sat/C: it contains itself"),
@@ -393,6 +410,48 @@ class System(TestCase):
         error = self.raises(tmx.XtceError, None, written(twice).path, "PACKET")
         self.assertEqual(error.reason, "this may be /Sat/PACKET or /Sat/Low/PACKET")
 
+    def named(self, names: list[str], decoded: str = "") -> dict[str, str]:
+        """The columns of parameters of these names, each of an octet: its parameter, or behind it its value.  Some are decoded."""
+        types = U8 + INTEGER.format(8, "", CALIBRATED.format(POLYNOMIAL)).replace('"T"', '"P"')
+        kinds = ["P" if it in decoded.split() else "u8" for it in names]
+        said = "".join(f'<Parameter name={quoteattr(it)} parameterTypeRef="{kind}"/>' for it, kind in zip(names, kinds))
+        inside = "".join(f"<ParameterRefEntry parameterRef={quoteattr(it)}/>" for it in names)
+        text = system(types, said, container("C", inside))
+        self.assertEqual(written(text).refusals(), {})
+        found = table(text, bytes(range(1, len(names) + 1)))
+        self.assertEqual(list(found), [it.name for it in found.columns])
+        whole = {column: plain(found[column])[0] for column in list(found)[11:]}
+        raw = {column: value for column, value in whole.items() if isinstance(value, int)}
+        self.assertEqual(sorted(raw.values()), list(range(1, len(names) + 1)))
+        self.assertEqual({it: names[value - 1] for it, value in raw.items()}, {it: found.parameters[it][5:] for it in raw})
+        self.assertEqual(set(found.parameters), set(list(found)[4:]))
+        return {it: found.parameters[it] for it in whole}
+
+    def test_names_of_columns_that_are_taken(self) -> None:
+        self.assertEqual(self.named(["X_raw", "X"], "X"), {"X_raw": "/Sat/X_raw", "X": "/Sat/X", "X_raw_": "/Sat/X"})
+        self.assertEqual(self.named(["X", "X_raw"], "X"), {"X": "/Sat/X", "X_raw_": "/Sat/X", "X_raw": "/Sat/X_raw"})
+        own = ["tm_count", "tm_record", "tm_channel", "tm_apid", "tm_count_"]
+        wanted = ["tm_count_", "tm_record_", "tm_channel_", "tm_apid_", "tm_count__"]
+        self.assertEqual(self.named(own), dict(zip(wanted, (f"/Sat/{it}" for it in own))))
+        spaced = ["A", "A ", "\tA", " ", "B\r\nC", "B  C"]
+        self.assertEqual(self.named(spaced), dict(zip(("A", "A_", "A__", "_", "B  C", "B  C_"), (f"/Sat/{it}" for it in spaced))))
+        odd = ['"', "a,b", "\u2028", "A.B", "=1", "\N{GRINNING FACE}", "a\rb"]
+        self.assertEqual(list(self.named(odd)), [*odd[:-1], "a b"])
+        parts = written(one(U8 + AGGREGATE, entries("A", "A.LOW")).replace("</ParameterSet>", '<Parameter name="A.LOW" parameterTypeRef="u8"/></ParameterSet>'))
+        fields = [(it.name, it.parameter, it.part, it.offset) for it in parts.columns("C")[7:]]
+        wanted = [("A.LOW", "/Sat/A", ".LOW", 48), ("A.HIGH", "/Sat/A", ".HIGH", 56), ("A.LOW_", "/Sat/A.LOW", "", 64)]
+        self.assertEqual(fields, wanted)
+
+    def test_names_that_are_compared(self) -> None:
+        """Columns that have other names than their parameters are found by comparisons."""
+        types, parameters = integers(("tm_count", 8), ("X_raw", 8))
+        curve = INTEGER.format(8, "", CALIBRATED.format(POLYNOMIAL)).replace('"T"', '"P"')
+        for said, wanted in (("tm_count", [1]), ("X_raw", [1, 2]), ("X", [0])):
+            criteria = f'<ComparisonList>{OF_300}<Comparison parameterRef="{said}" useCalibratedValue="false" value="2"/></ComparisonList>'
+            inside = container("C", entries("tm_count", "X", "X_raw"), criteria)
+            text = system(types + curve, f'{parameters}<Parameter name="X" parameterTypeRef="P"/>', inside)
+            self.assertEqual(plain(table(text, b"\0\2\0", b"\2\0\2", b"\0\0\2")["tm_record"]), wanted, said)
+
     def test_the_time_of_each_row(self) -> None:
         found = table(one(TIME.format("", U32, "<Epoch>UNIX</Epoch>")), bytes(4), b"\0\0\0\x01")
         self.assertEqual(dates(found.time), [datetime(1970, 1, 1), datetime(1970, 1, 1, 0, 0, 1)])
@@ -456,11 +515,126 @@ class Files(TestCase):
         error = self.raises(tmx.XtceError, None, found.columns, "C2999")
         self.assertEqual(error.reason, "its containers are nested too deep")
 
+    def test_containers_and_types_that_grow(self) -> None:
+        """Forty containers, each twice in the next one, and twenty types, each ten times in the next one: all without a value."""
+        begin, twice = time.monotonic(), '<ContainerRefEntry containerRef="C{0}"/>' * 2
+        empty = '<SequenceContainer name="{}"><EntryList>{}</EntryList></SequenceContainer>'
+        grown = "".join(empty.format(f"C{it}", twice.format(it - 1) if it else "") for it in range(40))
+        self.assertIn("too many types and containers", written(system("", "", grown)).refusals()["/Sat/C39"])
+        member = '<AggregateParameterType name="{}"><MemberList>{}</MemberList></AggregateParameterType>'
+        ten = "".join(f'<Member name="M{it}" typeRef="{{0}}"/>' for it in range(10))
+        grown = "".join(member.format("T" if it == 18 else f"T{it}", ten.format(f"T{it - 1}") if it else "") for it in range(19))
+        self.assertIn("too many types and containers", written(one(grown)).refusals()["/Sat/C"])
+        self.assertLess(time.monotonic() - begin, 5)
+
+    def test_references_that_begin_with_points(self) -> None:
+        """They mean one place: the system of Low has no A below it, though the file has one further up."""
+        inner = container("C", entries("../A"), base="../../PACKET")
+        lowest = lower("", "", inner).replace('name="Low"', 'name="Lowest"')
+        text = one(BYTE).replace("</SpaceSystem>", f"{lower('').replace('</TelemetryMetaData>', f'</TelemetryMetaData>{lowest}')}</SpaceSystem>")
+        said = {"/Sat/Low/Lowest/C": "/Sat/Low/Lowest/C: there is no parameter '../A'"}
+        self.assertEqual(written(text).refusals(), said)
+        found = written(text.replace('"../A"', '"../../A"'))
+        self.assertEqual((found.refusals(), found.columns("/Sat/Low/Lowest/C")[7].parameter), ({}, "/Sat/A"))
+        self.assertEqual(written(text.replace('"../A"', '"A"')).columns("/Sat/Low/Lowest/C")[7].parameter, "/Sat/A")
+
+    def test_a_table_of_leap_seconds_that_is_missing(self) -> None:
+        """Only the container that needs it is refused."""
+        text = one(TIME.format("", U32, "<Epoch>TAI</Epoch>")).replace(PACKET, PACKET + container("D", ""))
+        self.enterContext(mock.patch.dict(os.environ, TMX_LEAP_SECONDS="none"))
+        said = "/Sat/A: its time counts leap seconds: none: No such file or directory; let TMX_LEAP_SECONDS name a leap-seconds.list"
+        self.assertEqual(written(text).refusals(), {"/Sat/C": said})
+        self.raises(tmx.XtceError, None, table, text, bytes(4))
+        self.assertEqual(command("definition", "system.xml", out="out"), (0, ""))
+        wanted = ["/Sat/PACKET: no application, 7 fields", "/Sat/D: application 300, 7 fields", f"/Sat/C: refused: {said}"]
+        self.assertEqual(Path("out").read_text().splitlines(), wanted)
+
     def test_entities_that_grow(self) -> None:
         grown = "".join(f'<!ENTITY e{it + 1} "{f"&e{it};" * 10}">' for it in range(12))
         begin = time.monotonic()
         self.refused(f'<!DOCTYPE s [<!ENTITY e0 "0123456789">{grown}]><SpaceSystem name="&e12;"/>', "it has a DOCTYPE")
         self.assertLess(time.monotonic() - begin, 5)
+
+
+# Files that are spoilt.
+
+SPOILT = (
+    *("", " ", "-1", "0", "1", "7", "8", "65", "1e999", "1e99999999", "1e-99999999", "-0", "nan", "inf", "-inf", "0x", "0xF", "1/3", "1/0"),
+    *("9" * 30, "0x" + "F" * 5000, "9" * 5000, "1_0", "\u0663", "true", "True", "..", ".", "/", "//", "../..", "../../../../A", "./A", "/A"),
+    *("a" * 3000, "A\r", "A\n", "\tA ", 'A,"', "A.B", "A[0]", "\u2028", "\U0001F600", "tm_count", "A_raw", "hex", "undefined", "UTF-16"),
+    *("TAI", "GPS", "0001-01-01", "9999-12-31T23:59:59", "2000-01-01T00:00:00.123456789", "signMagnitude", "leastSignificantByteFirst"),
+    *("2", "100", "101", "300", "1000", "2047", "2048", "524336", "4294967296", "18446744073709551615", "18446744073709551616"),
+)
+
+
+def spoil(chance: random.Random, root: Element) -> None:
+    """Takes away, doubles, exchanges or renames something of a file, or gives it another value."""
+    elements = list(root.iter())
+    parents = {it: parent for parent in elements for it in parent}
+    one, other = chance.choice(elements), chance.choice(elements)
+    names = list(one.attrib)
+    kind = chance.randrange(12)
+    if kind == 0 and names:
+        del one.attrib[chance.choice(names)]
+    elif kind == 1 and one in parents:
+        parents[one].remove(one)
+    elif kind == 2 and one in parents:
+        parents[one].insert(chance.randrange(len(parents[one]) + 1), copy.deepcopy(one))
+    elif kind == 3 and one in parents and other in parents:
+        parents[other].append(copy.deepcopy(one))
+        parents[one].remove(one)
+    elif kind == 4:
+        one.tag, other.tag = other.tag, one.tag
+    elif kind == 5:
+        one.attrib, other.attrib = other.attrib, one.attrib
+    elif kind == 6 and names and other.attrib:
+        one.set(chance.choice(names), chance.choice(list(other.attrib.values())))
+    elif kind == 7:
+        one.text = chance.choice(SPOILT)
+    elif names:
+        one.set(chance.choice(names), chance.choice(SPOILT))
+
+
+class Spoilt(TestCase):
+    """Nothing but XtceError comes of a file, whatever is wrong with it; a container that isn't refused can be read.
+
+    The seed of a failure stands in its line.  `SEED` is the first one, and `SPOILT` how many there are.
+    """
+
+    def texts(self) -> list[str]:
+        made = [one(type_) for type_, _, _ in VALUES] + [text for text, _ in PLACES] + [text for text, _ in REFUSED]
+        return [(EXAMPLE / "mission.xml").read_text().replace(' xmlns="http://www.omg.org/spec/XTCE/20180204"', "")] * len(made) + made
+
+    def test_spoilt_files(self) -> None:
+        texts, first, many = self.texts(), int(os.environ.get("SEED", "0")), int(os.environ.get("SPOILT", "800"))
+        refused = read = 0
+        for seed in range(first, first + many):
+            with self.subTest(seed=seed):
+                chance = random.Random(seed)
+                root = fromstring(chance.choice(texts))
+                for _ in range(chance.choice((1, 2, 4, 8))):
+                    spoil(chance, root)
+                try:
+                    found = written(tostring(root, "unicode"))
+                except tmx.XtceError:
+                    continue
+                refusals = found.refusals()
+                refused += len(refusals)
+                for path in found.containers:
+                    if path in refusals:
+                        self.raises(tmx.XtceError, None, found.fields, recording_of([bytes(4)]), path, apid=300)
+                    elif chance.random() < 0.1:
+                        read += 1
+                        self.read(found, path, chance)
+        self.assertGreater(min(refused, read), many // 20)
+
+    def read(self, found: tmx.xtce.System, path: str, chance: random.Random) -> None:
+        """Reads a container that isn't refused, of packets of random octets."""
+        apid, last = found.apid(path), max((it.offset + it.bits for it in found.columns(path)), default=0)
+        payload = [chance.randbytes(min(max(1, -(-last // 8) - 6), 2030)) for _ in range(3)]
+        rows = found.fields(recording_of(payload, 300 if apid is None else apid), path, apid=300 if apid is None else None)
+        self.assertEqual([it.name for it in rows.columns], list(rows))
+        self.assertLess(len(found.definition(path).encode()), 1 << 20)
 
 
 # Random systems.

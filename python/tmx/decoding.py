@@ -275,12 +275,16 @@ def decoders_of(
     return found
 
 
-def decoded(fields: "Fields", decoders: Mapping[str, Decoder]) -> "Fields":
-    """The table with decoded columns; behind each stands the raw one.  Raises ColumnError where one isn't there, or two are."""
+def decoded(fields: "Fields", decoders: Mapping[str, Decoder], raws: Mapping[str, str] | None = None) -> "Fields":
+    """The table with decoded columns; behind each stands the raw one, whose name `raws` may have.
+
+    Raises ColumnError where one isn't there, or two are.
+    """
+    raws = {it: f"{it}{RAW}" for it in decoders} | dict(raws or {})
     for name in decoders:
         column_named(fields.columns, name)
-        if f"{name}{RAW}" in fields:
-            raise ColumnError(f"the table has a column {name + RAW!r} already")
+        if raws[name] in fields:
+            raise ColumnError(f"the table has a column {raws[name]!r} already")
     columns: list[Column] = []
     values: list[Any] = []
     bad = fields.bad_times
@@ -291,7 +295,7 @@ def decoded(fields: "Fields", decoders: Mapping[str, Decoder]) -> "Fields":
             columns.append(Column(column.name, decoder.type, column.bits))
             values.append(decoder.values(column.name, raw))
             bad += no_times(values[-1]) if decoder.type == "time" else 0
-            column = Column(f"{column.name}{RAW}", column.type, column.bits)
+            column = Column(raws[column.name], column.type, column.bits)
         columns.append(column)
         values.append(raw)
     found = fields.with_columns(columns, values)

@@ -49,6 +49,7 @@ class Fields(Mapping[str, Any]):
     columns        the name, the type and the bits of each column
     time           the time of each row, where it was asked for, else None
     bad_times      how many times are out of range: NaT, or without numpy None
+    parameters     for each column the parameter of an XTCE file that it has, or a part of one; empty without such a file
     short_packets  the packets of the application that have no row, since they are shorter than the definition
     """
 
@@ -58,6 +59,7 @@ class Fields(Mapping[str, Any]):
         self.short_lines: list[bytes] = []
         self.time: Any = None
         self.bad_times = 0
+        self.parameters: dict[str, str] = {}
 
     def __getitem__(self, name: str) -> Any:
         return self.by_name[name]

@@ -10,9 +10,10 @@ import csv
 import io
 import operator
 import os
+import re
 from collections import Counter
 from collections.abc import Callable, Iterator, Mapping, Sequence
-from contextlib import contextmanager, suppress
+from contextlib import contextmanager
 from dataclasses import dataclass
 from tempfile import NamedTemporaryFile
 from typing import Any
@@ -20,17 +21,20 @@ from typing import Any
 from .arguments import APPLICATIONS, Number, Numbers
 from .arguments import number as number_in
 from .decoding import RAW, Decoder, Labels, Text, Timed, Truth, decoded, rows_where
+from .definition import LEAD
 from .fields import Fields
 from .progress import Progress
 from .recording import Recording
 from .values import module
-from .xtce_file import Index, XtceError, read_root
+from .xtce_file import Index, XtceError, decimal, read_root, whole
 from .xtce_layout import Compared, Layout, Placed, layout
 from .xtce_types import MOST
 
 __all__ = ["Field", "System", "XtceError", "read"]
 
 APPLICATION = (5, 11)  # where a packet's header has its application: the first bit, and how many
+SPACE = re.compile("[\t\r\n]")  # what is a space in a name, as XML Schema has it
+LONGEST_DEFINITION = 1 << 20  # octets of a definition that the program reads
 HEADING = ("name", "data_type", "bit_length", "bit_offset")
 ORDERS: Mapping[str, Callable[[Any, Any], Any]] = {
     "==": operator.eq,
@@ -53,12 +57,15 @@ def read(path: str | os.PathLike[str]) -> "System":
 class Field:
     """A field of a container.
 
-    name       the name of its column: the parameter's, or its path where two of the container have one name
+    name       the name of its column: the parameter's, or its path where two of the container have one name, without spaces at its
+               ends.  Behind a name that another column has stand as many underscores as make it another one
     parameter  the parameter's path
     type       `uint`, `int`, `float` or `str`
     bits       its length
     offset     where it begins, in bits from the packet's first bit
     decoder    what makes its meaning of its raw value; None where that is its value
+    raw        the name of the column of its raw value
+    part       what is behind the parameter's name: the member of an aggregate, or the index of an array, as `.MODE` or `[0]`
     """
 
     name: str
@@ -67,11 +74,8 @@ class Field:
     bits: int
     offset: int
     decoder: Decoder | None
-
-    @property
-    def raw(self) -> str:
-        """The name of the column of its raw value."""
-        return self.name if self.decoder is None else self.name + RAW
+    raw: str
+    part: str = ""
 
 
 @dataclass(frozen=True)
@@ -137,11 +141,7 @@ class System:
 
     def definition(self, container: str) -> str:
         """The definition of the container's fields, for `tmx fields`.  Raises XtceError."""
-        text = io.StringIO()
-        rows = csv.writer(text, lineterminator="\n")
-        rows.writerow(HEADING)
-        rows.writerows((it.name, it.type, it.bits, it.offset) for it in self.columns(container))
-        return text.getvalue()
+        return definition_of(self.columns(container))
 
     def asked(self, container: str) -> tuple[list[Field], int | None, list[Condition]]:
         """The fields, the application, and what else the packets have to keep."""
@@ -221,7 +221,9 @@ def definition_file(text: str) -> Iterator[str]:
 
 def table_of(found: Fields, fields: Sequence[Field], conditions: Sequence[Condition]) -> Fields:
     """The decoded rows that keep the conditions."""
-    found = decoded(found, {it.name: it.decoder for it in fields if it.decoder is not None})
+    decoders = {it.name: it.decoder for it in fields if it.decoder is not None}
+    found = decoded(found, decoders, {it.name: it.raw for it in fields})
+    found.parameters = {column: it.parameter + it.part for it in fields for column in (it.name, it.raw)}
     if conditions:
         kept = [all(row) for row in zip(*(it.kept(found) for it in conditions))]
         found = rows_where(found, kept)
@@ -232,16 +234,22 @@ def table_of(found: Fields, fields: Sequence[Field], conditions: Sequence[Condit
 
 
 def columns_of(path: str, found: Layout) -> list[Field]:
-    """The fields of a layout with the names of their columns.  Raises XtceError where there are too many, or one comes twice."""
+    """The fields of a layout with the names of their columns.  Raises XtceError where no definition can have them."""
     if len(found.placed) > MOST:
         raise XtceError(path, f"it has {len(found.placed)} fields, and a definition at most {MOST}")
-    names = Counter(it.path + it.suffix for it in found.placed)
-    if twice := next((it for it, count in names.items() if count > 1), None):
-        raise XtceError(path, f"the parameter {twice} stands in it twice")
+    places = Counter((it.path, it.suffix) for it in found.placed)
+    if twice := next((it for it, count in places.items() if count > 1), None):
+        raise XtceError(path, f"the parameter {''.join(twice)} stands in it twice")
     parameters: dict[str, set[str]] = {}
     for it in found.placed:
         parameters.setdefault(short(it), set()).add(it.path)
-    return [field_at(it, len(parameters[short(it)]) == 1) for it in found.placed]
+    taken = {name for name, _ in LEAD}
+    names = [free((short(it) if len(parameters[short(it)]) == 1 else it.path) + it.suffix, taken) for it in found.placed]
+    raws = [name if it.kind.decoder is None else free(name + RAW, taken) for it, name in zip(found.placed, names)]
+    fields = [field_at(*it) for it in zip(found.placed, names, raws)]
+    if (octets := len(definition_of(fields).encode())) > LONGEST_DEFINITION:
+        raise XtceError(path, f"its definition has {octets} octets, and may have {LONGEST_DEFINITION}: its names are too long")
+    return fields
 
 
 def short(placed: Placed) -> str:
@@ -249,10 +257,27 @@ def short(placed: Placed) -> str:
     return placed.path.rpartition("/")[2]
 
 
-def field_at(placed: Placed, is_short: bool) -> Field:
+def free(name: str, taken: set[str]) -> str:
+    """The name of a column, without the spaces that a definition takes off its ends, which no other column has."""
+    found = SPACE.sub(" ", name).strip(" ")
+    while not found or found in taken:
+        found += "_"
+    taken.add(found)
+    return found
+
+
+def field_at(placed: Placed, name: str, raw: str) -> Field:
     kind = placed.kind
-    name = (short(placed) if is_short else placed.path) + placed.suffix
-    return Field(name, placed.path, kind.data_type, kind.bits, placed.offset, kind.decoder)
+    return Field(name, placed.path, kind.data_type, kind.bits, placed.offset, kind.decoder, raw, placed.suffix)
+
+
+def definition_of(fields: Sequence[Field]) -> str:
+    """The definition of fields, as a CSV."""
+    text = io.StringIO()
+    rows = csv.writer(text, lineterminator="\n")
+    rows.writerow(HEADING)
+    rows.writerows((it.name, it.type, it.bits, it.offset) for it in fields)
+    return text.getvalue()
 
 
 # Comparisons.
@@ -260,9 +285,8 @@ def field_at(placed: Placed, is_short: bool) -> Field:
 
 def field_of(fields: Sequence[Field], compared: Compared, path: str) -> Field:
     """The field that is compared.  Raises XtceError where it isn't among the container's."""
-    name = compared.parameter.rpartition("/")[2] + compared.suffix
     for it in fields:
-        if it.parameter == compared.parameter and it.name in (name, compared.parameter + compared.suffix):
+        if (it.parameter, it.part) == (compared.parameter, compared.suffix):
             return it
     raise XtceError(path, f"{compared.parameter}{compared.suffix} is compared, and has no place in it")
 
@@ -303,10 +327,9 @@ def condition(field: Field, compared: Compared, path: str) -> Condition:
 
 
 def number_of(text: str) -> int | float | None:
-    """The number of a text, also a hexadecimal one; None where it is none."""
-    said = text.strip().lower()
-    with suppress(ValueError):
-        return int(said, 16 if said.startswith("0x") else 10)
-    with suppress(ValueError):
-        return float(said)
-    return None
+    """The number of a text, a whole one if it is that; None where it is none."""
+    found, said = whole(text), decimal(text)
+    if found is None and said is not None:
+        value = float(said)
+        return int(value) if value.is_integer() else value
+    return found

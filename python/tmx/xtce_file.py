@@ -1,6 +1,8 @@
 """XTCE files (CCSDS 660.0-B, OMG 1.1 and 1.2): what a file defines, by its paths, and the references between."""
 
+import math
 import os
+import re
 from collections.abc import Iterator
 from dataclasses import dataclass, field
 from typing import IO, Any, NoReturn
@@ -11,6 +13,11 @@ from .errors import Error
 
 SETS = {"ParameterTypeSet": "types", "ParameterSet": "parameters", "ContainerSet": "containers"}
 WHAT = {"types": "type", "parameters": "parameter", "containers": "container"}
+SPACES = " \t\r\n"
+WHOLE = re.compile("[-+]?[0-9]+|0[xX][0-9a-fA-F]+|0[oO][0-7]+|0[bB][01]+")
+BASES = {"0x": 16, "0o": 8, "0b": 2}
+REAL = re.compile("[-+]?([0-9]+([.][0-9]*)?|[.][0-9]+)([eE][-+]?[0-9]{1,3})?")
+MOST_LETTERS = 100  # of a number
 INCLUDE = "{http://www.w3.org/2001/XInclude}include"
 
 
@@ -56,20 +63,41 @@ def says(element: Element, name: str, default: bool) -> bool:
     return element.get(name, str(default)).lower() in ("true", "1")
 
 
+def whole(text: str | None) -> int | None:
+    """The whole number of a text, also one with `0x`, `0o` or `0b` before it.  None where it is none, or has over 64 bits."""
+    said = WHOLE.fullmatch((text or "").strip(SPACES))
+    if said is None or len(said[0]) > MOST_LETTERS:
+        return None
+    found = int(said[0], BASES.get(said[0][:2].lower(), 10))
+    return found if -(1 << 63) <= found < 1 << 64 else None
+
+
 def integer(text: str | None, path: str) -> int:
-    """A whole number, also a hexadecimal one.  Raises XtceError."""
-    try:
-        return int((text or "").strip() or "no number", 16 if (text or "").lower().strip().startswith("0x") else 10)
-    except ValueError:
-        raise XtceError(path, f"{text!r} is no whole number") from None
+    """The same.  Raises XtceError where it is none."""
+    found = whole(text)
+    if found is None:
+        raise XtceError(path, f"{shortened(text)} is no whole number of up to 64 bits")
+    return found
+
+
+def decimal(text: str | None) -> str | None:
+    """The text of a finite number; None where it is none."""
+    said = (text or "").strip(SPACES)
+    return said if REAL.fullmatch(said) and len(said) <= MOST_LETTERS and math.isfinite(float(said)) else None
 
 
 def real(text: str | None, path: str) -> float:
-    """A number.  Raises XtceError."""
-    try:
-        return float(text or "")
-    except ValueError:
-        raise XtceError(path, f"{text!r} is no number") from None
+    """A finite number.  Raises XtceError."""
+    said = decimal(text)
+    if said is None:
+        raise XtceError(path, f"{shortened(text)} is no finite number")
+    return float(said)
+
+
+def shortened(text: str | None) -> str:
+    """A text as it is shown in a refusal."""
+    said = repr(text)
+    return said if len(said) <= MOST_LETTERS else f"{said[:MOST_LETTERS]}..."
 
 
 def fixed(element: Element | None, path: str, what: str) -> int:
@@ -151,7 +179,7 @@ class Index:
     def find(self, kind: str, reference: str | None, of: str) -> str:
         """The path that a reference from the element of a path means: in its system, or in the nearest one around that has it.
 
-        Raises XtceError where there is none.
+        One that begins with `./` or `../` means only the path from its system.  Raises XtceError where there is none.
         """
         found: dict[str, Element] = getattr(self, kind)
         said = reference or ""
@@ -160,7 +188,7 @@ class Index:
             if (path := joined(system, said)) in found:
                 said = path
                 break
-            if not system:
+            if not system or said.startswith(("./", "../")):
                 break
             system = system.rpartition("/")[0]
         if said in self.twice:
@@ -171,10 +199,12 @@ class Index:
 
 
 def joined(system: str, reference: str) -> str:
-    """The path of a reference from a system, with `.` and `..` worked out."""
+    """The path of a reference from a system, with `.` and `..` worked out.  Above the root there is none."""
     parts = system.split("/")
     for part in reference.split("/"):
         if part == "..":
+            if len(parts) < 2:
+                return ""
             parts.pop()
         elif part != ".":
             parts.append(part)

@@ -6,7 +6,9 @@ from dataclasses import dataclass, field
 from xml.etree.ElementTree import Element
 
 from .xtce_file import Index, XtceError, below, child, children, fixed, local, says
-from .xtce_types import MOST, Kind, Types
+from .xtce_types import MOST, MOST_STEPS, Kind, Types
+
+LONGEST = 8 * 65542  # bits of a packet
 
 
 @dataclass(frozen=True)
@@ -79,6 +81,9 @@ class Walk:
 
     def entry(self, entry: Element, path: str, start: int, previous: int) -> int:
         """Places what an entry refers to.  Where it ends."""
+        self.types.steps += 1
+        if self.types.steps > MOST_STEPS:
+            raise XtceError(self.open[0], "too many types and containers stand in one another")
         kind = local(entry)
         if kind == "ContainerRefEntry":
             what = self.index.find("containers", entry.get("containerRef"), path)
@@ -116,6 +121,8 @@ class Walk:
         for kind in self.kinds(entry, path):
             self.found.placed.append(Placed(path, suffix + kind.suffix, kind, at))
             at += kind.bits
+            if at > LONGEST:
+                raise XtceError(path, f"it ends at bit {at}, and a packet has at most {LONGEST} bits")
         if len(self.found.placed) > MOST:
             raise XtceError(self.open[0], f"it has over {MOST} fields, and a definition at most these")
         return at

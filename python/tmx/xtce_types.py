@@ -8,10 +8,12 @@ from itertools import product
 from xml.etree.ElementTree import Element
 
 from .decoding import Decoder, Labels, Polynomial, Spline, Text, Timed, Truth
+from .leap_seconds import LeapSecondsError
 from .time_codes import Ticks, fraction_of
-from .xtce_file import Index, XtceError, below, child, children, fixed, integer, local, real, says
+from .xtce_file import Index, XtceError, below, child, children, decimal, fixed, integer, local, real, says
 
 MOST = 1000  # fields of a definition
+MOST_STEPS = 5 * MOST  # types and entries that are looked at for one container
 INTEGERS = {"unsigned": "uint", "twosComplement": "int", "twosCompliment": "int"}  # the last as XTCE 1.1 spells it
 FLOATS = ("IEEE754_1985", "IEEE754")
 ENCODINGS = ("IntegerDataEncoding", "FloatDataEncoding", "StringDataEncoding", "BinaryDataEncoding")
@@ -48,13 +50,17 @@ class Types:
 
     def __init__(self, index: Index) -> None:
         self.index = index
+        self.steps = 0  # types and entries that were looked at
 
     def kinds(self, name: str | None, of: str, path: str, depth: int = 0) -> list[Kind]:
         """The values of a type, one behind another: of an array and an aggregate several.  `of` has the reference."""
         type_path = self.index.find("types", name, of)
         element = self.index.types[type_path]
+        self.steps += 1
         if depth > 20:
             raise XtceError(path, f"the type {type_path} contains itself")
+        if self.steps > MOST_STEPS:
+            raise XtceError(path, "too many types and containers stand in one another")
         if local(element) == "ArrayParameterType":
             return self.array(element, type_path, path, child(element, "DimensionList"), depth)
         if local(element) == "AggregateParameterType":
@@ -62,6 +68,8 @@ class Types:
             for member in children(child(element, "MemberList"), "Member"):
                 inner = self.kinds(member.get("typeRef"), type_path, path, depth + 1)
                 found += [replace(it, suffix=f".{member.get('name')}{it.suffix}") for it in inner]
+                if len(found) > MOST:
+                    raise XtceError(path, f"the type {type_path} has over {MOST} values")
             return found
         return [self.single(Chain(self.chain(type_path, path)), path)]
 
@@ -237,11 +245,14 @@ def coefficients(polynomial: Element, path: str) -> tuple[float, ...]:
 
 
 def labels(enumerations: Element | None, path: str) -> Labels:
+    """The labels; of two of a value the first counts."""
     found: dict[int | range, str] = {}
     for it in children(enumerations, "Enumeration"):
         least = integer(it.get("value"), path)
         most = integer(it.get("maxValue", it.get("value")), path)
-        found[least if least == most else range(least, most + 1)] = it.get("label", "")
+        if most < least:
+            raise XtceError(path, f"an enumeration's values from {least} to {most} are none")
+        found.setdefault(least if least == most else range(least, most + 1), it.get("label", ""))
     return Labels(found)
 
 
@@ -281,9 +292,11 @@ def ticks(chain: Chain, path: str) -> Ticks:
     if units not in SECONDS:
         raise XtceError(path, f"times in {units} are not read")
     try:
-        scale, offset = (fraction_of(encoding.get(*it)) * SECONDS[units] for it in (("scale", "1"), ("offset", "0")))
+        scale, offset = (fraction_of(decimal(encoding.get(*it)) or "none") * SECONDS[units] for it in (("scale", "1"), ("offset", "0")))
         found = Ticks(EPOCHS.get(said, said), scale, offset)
         found.times(path, [])
         return found
+    except LeapSecondsError as error:
+        raise XtceError(path, f"its time counts leap seconds: {error}") from None
     except ValueError:
         raise XtceError(path, f"the scale, the offset or the epoch {said!r} of its time is not read") from None

@@ -18,7 +18,7 @@ from tmx import values
 from tmx.leap_seconds import SYSTEM
 from tmx.time_codes import code_of
 
-PLACES = [f"tmx.{it}.module" for it in ("values", "fields", "times", "time_codes", "arrays", "decoding", "xtce")]
+PLACES = [f"tmx.{it}.module" for it in ("values", "fields", "times", "time_codes", "arrays", "decoding", "xtce_conditions")]
 # Rows of the table of the IERS, in seconds from 1900: TAI is 10, 19, 36 and 37 seconds ahead from 1972, 1980, July 2015 and 2017 on.
 TABLE = "#@\t3991593600\n2272060800\t10\t# 1 Jan 1972\n2524521600\t19\n3644697600\t36\n3692217600\t37\n"
 NEW_YEAR = datetime(2017, 1, 1)

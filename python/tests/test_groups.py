@@ -95,7 +95,7 @@ class Groups(TestCase):
         self.raises(ValueError, None, example().groups, secondary_header=-1)
 
     def test_nothing(self) -> None:
-        with self.assertWarnsRegex(tmx.TmxWarning, "^no segment of a group of application 101 on channel 0$"):
+        with self.assertWarnsRegex(tmx.TmxWarning, "^.*pass.rec: no segment of a group of application 101 on channel 0$"):
             self.assertEqual(list(example().groups(101, 0)), [])
 
     def test_a_program_that_gives_other_packets(self) -> None:

@@ -19,6 +19,7 @@ from tmx import progress
 
 OCTETS = RECORDING.read_bytes()
 OTHER = tmx.Settings(43, 256, True)
+NAMED = f"{RECORDING}: "  # which stands before a warning
 
 
 class Warned(TestCase):
@@ -57,9 +58,10 @@ class Warned(TestCase):
     def test_no_good_frame(self) -> None:
         for given in (RECORDING, io.BytesIO(OCTETS)):
             recording = tmx.Recording(given, OTHER)
+            named = NAMED if given is RECORDING else ""
             for call in self.calls(recording):
-                self.is_told_once(call)
-            said = ["no good frame in 300 records: 1 by crc, 299 by spacecraft"]
+                self.is_told_once(call, f"^{named}.*(no good frame|, 0 good, )")
+            said = [f"{named}no good frame in 300 records: 1 by crc, 299 by spacecraft"]
             self.assertEqual(self.warnings_of(recording.summary), said)
 
     def test_a_packed_recording(self) -> None:
@@ -69,15 +71,16 @@ class Warned(TestCase):
     def test_other_words_of_the_program(self) -> None:
         self.program('"$real" "$@" 2>/dev/null; echo "  300 records, 0 good, 300 bad: see tmx summary" >&2')
         said = self.warnings_of(tmx.Recording(RECORDING, OTHER).report)
-        self.assertEqual(said, ["300 records, 0 good, 300 bad: see tmx summary"])
+        self.assertEqual(said, [f"{NAMED}300 records, 0 good, 300 bad: see tmx summary"])
 
     def test_no_whole_record(self) -> None:
         for length in (0, 255):
             Path("short.rec").write_bytes(OCTETS[:length])
             for given in ("short.rec", io.BytesIO(OCTETS[:length])):
                 recording = tmx.Recording(given, SETTINGS)
+                named = "short.rec: " if given == "short.rec" else ""
                 for call in (*self.calls(recording), recording.summary):
-                    self.assertEqual(self.warnings_of(call), [f"no whole record: the recording has {length} octets"])
+                    self.assertEqual(self.warnings_of(call), [f"{named}no whole record: the recording has {length} octets"])
 
     def test_nothing_of_what_was_chosen(self) -> None:
         for chosen, said in (
@@ -89,17 +92,18 @@ class Warned(TestCase):
             ({"channel": [3, 1], "apid": [200, 102]}, "no packet of application 102 on channels 1 and 3"),
             ({"channel": [3, 5], "apid": 200}, "no packet of channel 5, and none of application 200 on channels 3 and 5"),
         ):
-            self.assertEqual(self.warnings_of(lambda: list(example().packets(**chosen))), [said])
+            self.assertEqual(self.warnings_of(lambda: list(example().packets(**chosen))), [NAMED + said])
         for apid, channel, said in (
             (10, None, "no packet of application 10"),
             (10, [3, 5], "no packet of application 10 on channels 3 and 5"),
             (101, [3, 5], "no packet of application 101 on channel 5"),
         ):
-            self.assertEqual(self.warnings_of(lambda: example().fields(ATTITUDE, apid, channel=channel)), [said])
-            self.assertEqual(self.warnings_of(lambda: list(example().fields(ATTITUDE, apid, channel=channel, blocks=7))), [said])
+            self.assertEqual(self.warnings_of(lambda: example().fields(ATTITUDE, apid, channel=channel)), [NAMED + said])
+            said_of_blocks = self.warnings_of(lambda: list(example().fields(ATTITUDE, apid, channel=channel, blocks=7)))
+            self.assertEqual(said_of_blocks, [NAMED + said])
         recording = tmx.Recording(RECORDING, tmx.Settings(42, 256, True, channels=[5, 6]))
-        self.assertEqual(self.warnings_of(recording.summary), ["no good frame of channels 5 and 6, which the settings choose"])
-        self.is_told_once(lambda: list(recording.packets()), "^no good frame of channel 5, 6; 300 records, 0 good, 1 bad, ")
+        self.assertEqual(self.warnings_of(recording.summary), [f"{NAMED}no good frame of channels 5 and 6, which the settings choose"])
+        self.is_told_once(lambda: list(recording.packets()), f"^{NAMED}no good frame of channel 5, 6; 300 records, 0 good, 1 bad, ")
 
     @needs("numpy")
     def test_an_array_says_the_same(self) -> None:
@@ -128,7 +132,7 @@ class Warned(TestCase):
             call = lambda: self.assertEqual(example().fields("d.csv", 101, channel=channel).rows, 0)  # noqa: E731, B023
             self.assertEqual(self.warnings_of(call), [])
         said = self.warnings_of(lambda: example().fields("d.csv", 101, channel=[3, 5]))
-        self.assertEqual(said, ["no packet of application 101 on channel 5"])
+        self.assertEqual(said, [f"{NAMED}no packet of application 101 on channel 5"])
 
     def test_steps_say_nothing(self) -> None:
         for call in (
@@ -171,7 +175,7 @@ class Warned(TestCase):
 
     def test_a_program_that_says_nothing(self) -> None:
         self.program('exec "$real" "$@" 2>/dev/null')
-        self.is_told_once(lambda: list(tmx.Recording(RECORDING, OTHER).frames()), "^no good frame$")
+        self.is_told_once(lambda: list(tmx.Recording(RECORDING, OTHER).frames()), f"^{NAMED}no good frame$")
 
 
 class Progress(TestCase):

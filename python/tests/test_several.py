@@ -98,7 +98,8 @@ class Several(TestCase):
             with warnings.catch_warnings(record=True) as found:
                 warnings.simplefilter("always")
                 tmx.Recording(given, SETTINGS).tables({101: ATTITUDE, 7: HOUSEKEEPING})
-            self.assertEqual([(str(it.message), it.filename) for it in found], [("no packet of application 7", __file__)])
+            named = f"{RECORDING}: " if given is RECORDING else ""
+            self.assertEqual([(str(it.message), it.filename) for it in found], [(f"{named}no packet of application 7", __file__)])
         with warnings.catch_warnings(record=True) as found:
             warnings.simplefilter("always")
             tmx.Recording(io.BytesIO(bytes(2560)), SETTINGS).tables(BOTH)

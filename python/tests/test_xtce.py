@@ -6,15 +6,18 @@ import math
 import os
 import random
 import struct
+import subprocess
 import time
 import unittest
+import warnings
+from collections import Counter
 from datetime import datetime, timedelta
 from pathlib import Path
 from unittest import mock
 from xml.etree.ElementTree import Element, fromstring, tostring
 from xml.sax.saxutils import quoteattr
 
-from support import EXAMPLE, TestCase, command, needs, tmx
+from support import EXAMPLE, TestCase, command, example, needs, tmx
 
 from test_decoding import WithModules, dates
 
@@ -392,6 +395,32 @@ class System(TestCase):
             blocks = written(text).blocks(recording_of(payloads), "C", 3)
             self.assertEqual([row for it in blocks for row in plain(it["tm_record"])], wanted, said)
 
+    def test_comparisons_of_extremes(self) -> None:
+        """2^63 - 1 and 2^63 are one number as floats of 64 bits, and 0.1 is none that a float of 32 bits can be."""
+        wide, most = INTEGER.format(64, 'encoding="{}"', ""), (2**63 - 1).to_bytes(8, "big")
+        for type_, payload, said, wanted in (
+            (wide.format("twosComplement"), most, 'comparisonOperator="==" value="9223372036854775808"', []),
+            (wide.format("twosComplement"), most, 'comparisonOperator="&lt;" value="9223372036854775808"', [0]),
+            (wide.format("unsigned"), b"\xff" * 8, 'value="18446744073709551615"', [0]),
+            (wide.format("unsigned"), b"\xff" * 7 + b"\xfe", 'value="18446744073709551615"', []),
+            (wide.format("unsigned"), b"\xff" * 7 + b"\xfe", 'value="1.8446744073709551615e19"', []),
+            (wide.format("unsigned"), b"\xff" * 8, 'comparisonOperator="&gt;" value="-1"', [0]),
+            (FLOAT.format(32, ""), struct.pack(">f", 0.1), 'value="0.1"', [0]),
+            (FLOAT.format(32, ""), struct.pack(">f", 0.1), 'comparisonOperator="&gt;" value="0.1"', []),
+            (FLOAT.format(16, ""), struct.pack(">e", 0.1), 'value="0.1"', [0]),
+            (FLOAT.format(32, ""), struct.pack(">f", 1e38), 'comparisonOperator="&lt;" value="1e39"', [0]),
+            (FLOAT.format(64, ""), struct.pack(">d", 0.1), 'value="0.1"', [0]),
+            (BYTE, b"\7", 'value="0b111"', [0]),
+            (BYTE, b"\7", 'value="7.0"', [0]),
+            (BYTE, b"\x0a", 'value="1_0"', None),
+            (BYTE, b"\x0a", 'value="nan"', None),
+        ):
+            text = one(type_).replace(OF_300, f'<ComparisonList>{OF_300}<Comparison parameterRef="A" {said}/></ComparisonList>')
+            if wanted is None:
+                self.assertRegex(written(text).refusals()["/Sat/C"], "is not understood$")
+            else:
+                self.assertEqual(plain(table(text, payload)["tm_record"]), wanted, (type_, said))
+
     def test_an_application_by_its_label(self) -> None:
         label = ENUMERATED.replace('"T"', '"u11"').replace("Encoding/>", 'Encoding sizeInBits="11"/>').replace("1F", "300")
         label = label.replace('value="1" label="ON"', 'value="300" label="HK"')
@@ -637,6 +666,151 @@ class Spoilt(TestCase):
         self.assertLess(len(found.definition(path).encode()), 1 << 20)
 
 
+# Packets that are too short.
+
+SIZE = 48  # octets of data of a frame
+LEVELS = system(
+    *map(str.__add__, integers(("A", 8), ("D", 64)), ("", '<Parameter name="B" parameterTypeRef="u16"/>')),
+    container("ANY", entries("A"))
+    + container("LOW", entries("B"), '<Comparison parameterRef="A" value="7"/>', "ANY")
+    + container("LAST", entries("D"), '<Comparison parameterRef="B" value="513"/>', "LOW"),
+)
+ENDS_OF = {"A": 7, "B": 9, "D": 17}  # the octets of a packet that has the field
+
+
+def filled(payloads: list[bytes]) -> bytes:
+    """Frames with one packet each, and behind it an idle one."""
+    frames = []
+    for number, payload in enumerate(payloads):
+        packet = struct.pack(">HHH", APID, 0xC000 | number % 16384, len(payload) - 1) + payload
+        idle = struct.pack(">HHH", 2047, 0xC000 | number % 16384, SIZE - len(packet) - 7) + bytes(SIZE - len(packet) - 6)
+        frames.append(struct.pack(">HBBH", 42 << 4, number % 256, number % 256, 0) + packet + idle)
+    return b"".join(frames)
+
+
+class TooShort(TestCase):
+    def given(self, payloads: list[bytes], kind: str) -> tmx.Recording:
+        """A recording as a file, as a stream, or as a pipe that is read once."""
+        octets, settings = filled(payloads), tmx.Settings(42, SIZE + 6, False)
+        Path("it.rec").write_bytes(octets)
+        if kind == "file":
+            return tmx.Recording("it.rec", settings)
+        if kind == "stream":
+            return tmx.Recording(io.BytesIO(octets), settings)
+        ran = self.enterContext(subprocess.Popen(["cat", "it.rec"], stdout=subprocess.PIPE))
+        return tmx.Recording(ran.stdout, settings)
+
+    def sorted(self, payloads: list[bytes], container: str) -> tuple[list[int], list[int], int]:
+        """The records that have a row, those that are too short, and how many are too short to tell: by the octets themselves."""
+        wanted, needs = {"LAST": (("A", b"\7"), ("B", b"\2\1")), "LOW": (("A", b"\7"),), "ANY": ()}[container], {"LAST": "D", "LOW": "B", "ANY": "A"}
+        rows, short, unclear = [], [], 0
+        for record, payload in enumerate(payloads):
+            packet, there = bytes(6) + payload, [it for it in wanted if ENDS_OF[it[0]] <= 6 + len(payload)]
+            if any(packet[ENDS_OF[name] - len(value) : ENDS_OF[name]] != value for name, value in there):
+                continue
+            if len(packet) >= ENDS_OF[needs[container]]:
+                rows.append(record)
+            elif len(there) == len(wanted):
+                short.append(record)
+            else:
+                unclear += 1
+        return rows, short, unclear
+
+    def test_packets_of_other_containers(self) -> None:
+        chance = random.Random(5)
+        payloads = [chance.choice((b"\7", b"\x08")) + chance.choice((b"\2\1", b"\2\2")) + chance.randbytes(9) for _ in range(300)]
+        payloads = [it[: chance.randrange(1, 13)] for it in payloads]
+        for container in ("LAST", "LOW", "ANY"):
+            rows, short, unclear = self.sorted(payloads, container)
+            self.assertGreater(min(len(rows), len(short) or container == "ANY", unclear or container != "LAST"), 0)
+            for kind in ("file", "stream", "pipe"):
+                found = written(LEVELS).fields(self.given(payloads, kind), container)
+                self.assertEqual((plain(found["tm_record"]), found.short_count, found.unclear_count), (rows, len(short), unclear))
+                self.assertEqual([it.record for it in found.short_packets], short)
+                lengths = [(it.found, it.needed, it.channel, it.from_, it.at) for it in found.short_packets]
+                needed = {"LAST": 136, "LOW": 72, "ANY": 56}[container]
+                self.assertEqual(lengths, [(48 + 8 * len(payloads[it]), needed, 0, it, 0) for it in short])
+                ending = [f"{len(rows)} rows, {len(found)} columns"]
+                ending += [f"{len(short)} packets too short for a row"] if short else []
+                ending += [f"{unclear} packets too short to tell the container"] if unclear else []
+                self.assertEqual(found.ending(), ", ".join(ending))
+                *others, last = written(LEVELS).blocks(self.given(payloads, kind), container, 20)
+                self.assertEqual((last.short_count, last.unclear_count), (len(short), unclear))
+                self.assertEqual({(it.short_count, it.unclear_count) for it in others}, {(0, 0)})
+            other = written(LEVELS).fields(self.given(payloads, "file"), container, channel=1)
+            self.assertEqual((other.rows, other.short_count, other.unclear_count), (0, 0, 0))
+
+    def test_blocks_keep_a_hundred(self) -> None:
+        payloads = [b"\7\2\1"] * 250 + [b"\7\2\1" + bytes(8)]
+        for kind in ("file", "stream"):
+            (last,) = written(LEVELS).blocks(self.given(payloads, kind), "LAST", 10)
+            self.assertEqual((last.rows, last.short_count, [it.record for it in last.short_packets]), (1, 250, list(range(100))))
+            whole = written(LEVELS).fields(self.given(payloads, kind), "LAST")
+            self.assertEqual((whole.short_count, len(whole.short_packets)), (250, 250))
+            (last,) = written(LEVELS).blocks(self.given([b"\7"] * 250 + payloads[-1:], kind), "LOW", 10)
+            self.assertEqual((last.short_count, len(last.short_packets), last.unclear_count), (250, 100, 0))
+
+    def test_the_example(self) -> None:
+        """Each report of housekeeping has the length of its container: none is too short."""
+        mission = tmx.xtce.read(EXAMPLE / "mission.xml")
+        reports = Counter(it.octets[12:16].decode() for it in example().packets(apid=100))
+        for container, name in (("POWER", "PWR "), ("THERMAL", "THM "), ("RADIO", "RAD ")):
+            found = mission.fields(example(), container)
+            self.assertEqual((found.rows, found.short_count, found.unclear_count, found.short_packets), (reports[name], 0, 0, []))
+
+    def test_each_type_of_a_condition(self) -> None:
+        """Short packets are judged as rows are: by whole numbers, floats, texts, truth values, labels and calibrated values."""
+        spelled = '<BooleanParameterType name="B"><IntegerDataEncoding sizeInBits="1"/></BooleanParameterType>'
+        curve = INTEGER.format(8, "", CALIBRATED.format(POLYNOMIAL)).replace('"T"', '"P"')
+        signed = INTEGER.format(7, 'encoding="twosComplement"', "").replace('"T"', '"S"')
+        types = ENUMERATED + spelled + curve + signed + FLOAT.format(32, "").replace('"T"', '"F"') + wide("UTF-16", size=16).replace('"T"', '"X"')
+        parameters = "".join(f'<Parameter name="{it}" parameterTypeRef="{it}"/>' for it in "BSTPFX")
+        last = INTEGER.format(64, "", "").replace('"T"', '"L"')
+        begin = struct.pack(">BBBf", 0x80 | 0x7E, 16, 4, 0.1) + "Ω".encode("utf-16-be")
+        for said, wanted in (
+            ('B" value="true"', 1), ('B" value="false"', 0), ('S" value="-2"', 1), ('S" comparisonOperator="&gt;" value="-2"', 0),
+            ('T" value="SAFE"', 1), ('T" comparisonOperator="!=" value="SAFE"', 0), ('P" value="5"', 1), ('P" value="5.5"', 0),
+            ('F" value="0.1"', 1), ('F" comparisonOperator="&gt;" value="0.1"', 0), ('X" value="Ω"', 1), ('X" value="a"', 0),
+        ):  # fmt: skip
+            criteria = f'<ComparisonList>{OF_300}<Comparison parameterRef="{said}/></ComparisonList>'
+            inside = container("C", entries(*"BSTPFXL"), criteria)
+            found = written(system(types + last, f'{parameters}<Parameter name="L" parameterTypeRef="L"/>', inside))
+            payloads = [begin + bytes(7), begin + bytes(8), begin[:-2]]
+            for kind in ("file", "stream"):
+                rows = found.fields(self.given(payloads, kind), "C")
+                unclear = 1 if said.startswith("X") else 0
+                counts = (rows.rows, rows.short_count, rows.unclear_count)
+                self.assertEqual(counts, (wanted, wanted * (2 - unclear), unclear), said)
+
+    def test_no_row(self) -> None:
+        payloads = [b"\7\2\2" + bytes(8)] * 5 + [b"\7\2\1", b"\7", b"\x08"]
+        for call in (
+            lambda given: written(LEVELS).fields(given, "LAST"),
+            lambda given: list(written(LEVELS).blocks(given, "LAST", 2)),
+        ):
+            with self.assertWarns(tmx.TmxWarning) as said:
+                call(self.given(payloads, "file"))
+            told = "no packet of /Sat/LAST among 8 of application 300, but 1 of it is too short for a row, and 1 is too short to tell"
+            self.assertEqual((str(said.warning), said.filename), (f"it.rec: {told}", __file__))
+            with self.assertWarns(tmx.TmxWarning) as said:
+                call(self.given(payloads[:5], "stream"))
+            self.assertEqual(str(said.warning), "no packet of /Sat/LAST among 5 of application 300")
+        with self.assertWarns(tmx.TmxWarning) as said:
+            written(LEVELS.replace('"300"', '"301"')).fields(self.given(payloads, "file"), "LAST")
+        self.assertEqual(str(said.warning), "it.rec: no packet of application 301")
+        with warnings.catch_warnings():
+            warnings.simplefilter("error")
+            for container in ("LAST", "LOW", "ANY"):
+                written(LEVELS).fields(self.given([*payloads, b"\7\2\1" + bytes(8)], "stream"), container)
+
+    def test_a_recording_that_changes(self) -> None:
+        """The program tells two packets, and then one."""
+        given = self.given([b"\7\2\1"] * 2, "file")
+        self.program('case "$1" in packets) head -c 54 it.rec > short.rec; exec "$real" packets --binary --settings "$6" short.rec;; esac; exec "$real" "$@"')
+        with self.assertRaisesRegex(tmx.DisagreementError, "^1 packets are too short for a row, and the report has 2: did the"):
+            written(LEVELS).fields(given, "LAST")
+
+
 # Random systems.
 
 
@@ -761,6 +935,11 @@ class WithoutNumpy(WithModules):
 
 @needs("numpy")
 class SystemAsLists(System, WithoutNumpy):
+    pass
+
+
+@needs("numpy")
+class TooShortAsLists(TooShort, WithoutNumpy):
     pass
 
 

@@ -11,7 +11,7 @@ import tempfile
 from collections.abc import Collection, ItemsView, Iterable, Iterator, KeysView, Mapping, Sequence
 from contextlib import contextmanager
 from dataclasses import dataclass, field
-from itertools import compress
+from itertools import compress, islice
 from typing import IO, Any
 
 from .arrays import single_columns, with_arrays
@@ -24,6 +24,7 @@ from .progress import Progress
 from .rests import Rests
 from .runs import Command, Runs, line_blocks, running
 from .settings import Settings
+from .sieve import Sieve
 from .source import Source, refuse_to_overwrite
 from .steps import reads_all
 from .tables import html_table, text_table
@@ -34,6 +35,7 @@ from .values import Encoding, Kinds, module
 Name = str | os.PathLike[str]
 
 MOST_ROWS, MOST_COLUMNS = 10, 20  # that are shown
+MOST_SHORT = 100  # packets without a row that are kept of tables that come one by one
 SHORT_PACKET = b"shortpacket "  # how its line begins
 CHANNEL = 8  # its place in a row
 FRAME = 2048  # octets of a frame of `long_packet`
@@ -50,13 +52,17 @@ class Fields(Mapping[str, Any]):
     time           the time of each row, where it was asked for, else None
     bad_times      how many times are out of range: NaT, or without numpy None
     parameters     for each column the parameter of an XTCE file that it has, or a part of one; empty without such a file
-    short_packets  the packets of the application that have no row, since they are shorter than the definition
+    short_packets  the packets of the application that have no row, since they are shorter than the definition; of an XTCE
+                   container those that keep its conditions.  Of tables that come one by one the last has the first hundred
+    short_count    how many they are, in the last of such tables too
+    unclear_count  of an XTCE container how many packets are too short to tell whether they keep its conditions
     """
 
     def __init__(self, columns: Sequence[Column], values: Sequence[Any]) -> None:
         self.columns = list(columns)
         self.by_name = {it.name: found for it, found in zip(columns, values)}
         self.short_lines: list[bytes] = []
+        self.short_count = self.unclear_count = 0
         self.time: Any = None
         self.bad_times = 0
         self.parameters: dict[str, str] = {}
@@ -104,7 +110,7 @@ class Fields(Mapping[str, Any]):
 
     def is_empty(self) -> bool:
         """Whether no packet of the application came."""
-        return not self.rows and not self.short_lines
+        return not self.rows and not self.short_count
 
     def decoded(
         self,
@@ -154,8 +160,9 @@ class Fields(Mapping[str, Any]):
 
     def ending(self) -> str:
         """How much of it there is."""
-        short, bad = len(self.short_lines), self.bad_times
+        short, unclear, bad = self.short_count, self.unclear_count, self.bad_times
         said = f", {short} packet{'s' * (short != 1)} too short for a row" if short else ""
+        said += f", {unclear} packet{'s' * (unclear != 1)} too short to tell the container" if unclear else ""
         said += f", {bad} time{'s' * (bad != 1)} out of range" if bad else ""
         return f"{self.rows} rows, {len(self)} columns{said}"
 
@@ -228,6 +235,7 @@ class Table:
     step              the words of a job that goes on, or stops early
     arrays            the columns of octets that are arrays, and of what
     rest              what gives the octets behind the fields
+    sieve             what tells which packets that are too short for a row are those of an XTCE container
     """
 
     definition: Name
@@ -239,6 +247,7 @@ class Table:
     step: Sequence[str] = ()
     arrays: Mapping[str, Any] = field(default_factory=dict)
     rest: Rests | None = None
+    sieve: Sieve | None = None
 
     def whole(self, found: Fields) -> Fields:
         """The table with its times, its arrays and what follows its fields."""
@@ -273,12 +282,18 @@ def read_tables(
     table: Table, source: Source, settings: Name | Settings, rows: int | None, progress: Progress
 ) -> Iterator[Fields]:
     """What `tmx fields` gives, as tables of so many rows, or as one.  The last has the packets that are too short for a row."""
-    missing = set(table.channels or ())
+    missing, sieve, is_stream = set(table.channels or ()), table.sieve, source.is_stream
+    most = None if rows is None else MOST_SHORT
     with report_file(table, source, settings) as report:
         line = ["--definition", os.fspath(table.definition), "--apid", str(table.apid), "--report", report]
         command = Command(["fields", "--binary", *line, *table.step])
         others = [] if table.rest is None else [table.rest.command]
+        if sieve is not None:
+            sieve.most = most
+            others += [sieve.command] if is_stream else []
         with running(source, settings, command, *others, progress=progress) as runs:
+            if sieve is not None and is_stream:
+                runs.takers[len(others)] = sieve.take
             first = runs.chunk(0)
             if not first and (fault := runs.runs[0].fault()):
                 raise fault
@@ -296,9 +311,16 @@ def read_tables(
             runs.finish()
         with open(report, "ab+") as lines:
             lines.seek(0)
-            last.short_lines = list(table.short_lines(lines, missing))
+            short = table.short_lines(lines, missing)
+            last.short_lines = list(islice(short, most))
+            last.short_count = len(last.short_lines) + sum(1 for _ in short)
     if reads_all(table.step):
         warn_of_missing(table, runs, settings, last.is_empty(), missing)
+    if sieve is not None and last.short_count:
+        if not is_stream:
+            with running(source, settings, sieve.command) as again:
+                sieve.read(again)
+        sieve.give_to(last)
     yield last
 
 
@@ -306,7 +328,7 @@ def warn_of_missing(table: Table, runs: Runs, settings: Name | Settings, is_empt
     """Warns where no packet of the application came, or none of a channel."""
     if not warn_of_nothing(runs, settings) and (is_empty or missing):
         where = f" on {numbered('channel', missing)}" if missing else ""
-        warn(f"no packet of application {table.apid}{where}")
+        warn(f"no packet of application {table.apid}{where}", runs.source)
 
 
 @contextmanager

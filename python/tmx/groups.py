@@ -106,7 +106,7 @@ def read_groups(
     if not warn_of_nothing(runs, settings) and not wanted.came:
         named = ("application", wanted.chosen.apids), ("channel", wanted.chosen.channels)
         said = [numbered(word, them) for word, them in named if them]
-        warn(f"no segment of a group{' of ' if said else ''}{' on '.join(said)}")
+        warn(f"no segment of a group{' of ' if said else ''}{' on '.join(said)}", runs.source)
 
 
 def joined(runs: Runs, wanted: OpenGroups) -> Iterator[JoinedGroup | Broken | Stray]:

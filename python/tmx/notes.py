@@ -12,6 +12,7 @@ from .errors import TmxWarning
 from .loss_map import listed
 from .runs import Runs
 from .settings import Settings
+from .source import Source
 from .summary import no_record
 
 HERE = os.path.dirname(__file__)
@@ -19,8 +20,14 @@ KEPT: ContextVar[list[str] | None] = ContextVar("KEPT", default=None)  # warning
 NOTHING_GOOD = re.compile(r"no good frame|: packed by |\b0 good\b")  # in what the program says behind a run
 
 
-def warn(text: str) -> None:
-    """Warns at the line outside of this package that has called.  A thread of this package keeps it for that."""
+def warn(text: str, source: Source | None = None) -> None:
+    """Warns at the line outside of this package that has called.  A thread of this package keeps it for that.
+
+    The name of the recording stands before the text, where it has one.
+    """
+    name = None if source is None else source.name
+    if name is not None and f"{name}: " not in text:
+        text = f"{name}: {text}"
     if (kept := KEPT.get()) is not None:
         kept.append(text)
         return
@@ -40,7 +47,7 @@ def warn_of_nothing(runs: Runs, settings: Settings | str | os.PathLike[str], cam
     if known is not None and octets is not None and octets < known.record_length:
         text = no_record(octets)
     if text is not None:
-        warn(text)
+        warn(text, runs.source)
     return text is not None
 
 

@@ -12,6 +12,7 @@ from .errors import DisagreementError
 from .lines import Packet, Parts, read_packet
 from .notes import numbered, warn
 from .runs import Runs
+from .source import Source
 from .values import module
 
 LEAD = 16  # octets of a lead: the record, that of the beginning, the place there, the channel and a zero, the octets
@@ -61,16 +62,16 @@ class Missing:
         self.all = True
         self.apids, self.channels = set(chosen.apids or ()), set(chosen.channels or ())
 
-    def warn(self) -> None:
+    def warn(self, source: Source) -> None:
         """Warns of them, if there are any."""
         channels = self.chosen.channels or frozenset()
         said = [numbered("channel", self.channels)] if self.channels else []
         if self.apids and len(self.channels) < max(1, len(channels)):
             said.append(numbered("application", self.apids) + (f" on {numbered('channel', channels)}" if channels else ""))
         if said:
-            warn(f"no packet of {', and none of '.join(said)}")
+            warn(f"no packet of {', and none of '.join(said)}", source)
         elif self.all:
-            warn("no packet: the good frames have no whole one")
+            warn("no packet: the good frames have no whole one", source)
 
 
 def chosen(apid: Numbers, channel: Numbers) -> Chosen:

@@ -170,9 +170,9 @@ class Recording:
         found, settings = self.counts(progress), settings_of(self.settings)
         missing = {it for it in settings.channels if it not in found.channels} if settings and settings.channels else set()
         if not found.recording.good:
-            warn(found.reason_for_nothing())
+            warn(found.reason_for_nothing(), self.source)
         elif missing:
-            warn(f"no good frame of {numbered('channel', missing)}, which the settings choose")
+            warn(f"no good frame of {numbered('channel', missing)}, which the settings choose", self.source)
         return found
 
     def counts(self, progress: Progress = False) -> Summary:
@@ -257,7 +257,8 @@ class Recording:
         arrays      for columns of `str` of what they are arrays: a type of numpy, as ">u2", or `uint12` and `int12` of so many bits,
                     one behind another.  The column is a two-dimensional array then; without numpy a list of tuples
         rest        the name of a column for the octets behind the last field, as many as each packet has
-        blocks      how many rows a table has: tables come one by one then, two in memory.  The last has all `short_packets`
+        blocks      how many rows a table has: tables come one by one then, two in memory.  The last has `short_count`, and the
+                    first hundred `short_packets`
 
         The other words are those of `packets`, but the program writes `checkpoint`.  Raises DefinitionError, ColumnError, and
         UnicodeDecodeError, which names column and row, where a text isn't in the encoding.

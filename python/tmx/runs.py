@@ -153,6 +153,7 @@ class Runs:
         self.shown, self.next_look = 0, 0.0
         self.runs: list[Run] = []
         self.kept: list[deque[bytes]] = [deque() for _ in commands]
+        self.takers: dict[int, Callable[[bytes], None]] = {}  # of runs over a stream whose octets are not kept, but given to these
         self.left: dict[int, memoryview] = {}  # of each run that takes input, what it hasn't yet taken of the block
         self.write: Callable[[int, memoryview], int] = os.write
         self.selector = selectors.DefaultSelector()
@@ -295,7 +296,7 @@ class Runs:
         run = self.runs[number]
         octets = run.read()
         if octets:
-            self.kept[number].append(octets)
+            self.takers.get(number, self.kept[number].append)(octets)
         else:
             self.selector.unregister(run.output)
 

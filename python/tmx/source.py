@@ -76,6 +76,12 @@ class Source:
         return self.given if isinstance(self.given, str) and self.given != "-" else None
 
     @property
+    def name(self) -> str | None:
+        """What names it to a reader; None of a stream without a name."""
+        said = "standard input" if self.given == "-" else self.path or getattr(self.given, "name", None)
+        return said if isinstance(said, str) else None
+
+    @property
     def file(self) -> str | int | None:
         """The file that is read, by its name or its descriptor; None where there is none.  Of a `Cut` it is that of its stream."""
         if self.path is not None:

@@ -103,7 +103,7 @@ class Job:
     def warn(self, runs: Runs, missing: Missing) -> None:
         """Warns of what didn't come."""
         if self.is_whole and not warn_of_nothing(runs, self.settings):
-            missing.warn()
+            missing.warn(self.source)
 
     def records_there(self, length: int) -> int | None:
         """How many whole records of this length the file has now behind those that are done; less than none where it is too short.

@@ -8,42 +8,31 @@ What has no fixed place in a packet is refused, container by container.  docs/MI
 
 import csv
 import io
-import operator
 import os
 import re
 from collections import Counter
-from collections.abc import Callable, Iterator, Mapping, Sequence
+from collections.abc import Iterator, Sequence
 from contextlib import contextmanager
-from dataclasses import dataclass
 from tempfile import NamedTemporaryFile
-from typing import Any
 
-from .arguments import APPLICATIONS, Number, Numbers
-from .arguments import number as number_in
-from .decoding import RAW, Decoder, Labels, Text, Timed, Truth, decoded, rows_where
+from .arguments import APPLICATIONS, CHANNELS, RECORDS, Number, Numbers, number, numbers
+from .decoding import RAW, Timed, decoded, rows_where
 from .definition import LEAD
-from .fields import Fields
+from .fields import Fields, Table, read_tables
+from .notes import warn
 from .progress import Progress
 from .recording import Recording
-from .values import module
-from .xtce_file import Index, XtceError, decimal, read_root, whole
-from .xtce_layout import Compared, Layout, Placed, layout
+from .sieve import Sieve
+from .xtce_conditions import Condition, Field, application, condition, field_of, is_application
+from .xtce_file import Index, XtceError, read_root
+from .xtce_layout import Layout, Placed, layout
 from .xtce_types import MOST
 
 __all__ = ["Field", "System", "XtceError", "read"]
 
-APPLICATION = (5, 11)  # where a packet's header has its application: the first bit, and how many
 SPACE = re.compile("[\t\r\n]")  # what is a space in a name, as XML Schema has it
 LONGEST_DEFINITION = 1 << 20  # octets of a definition that the program reads
 HEADING = ("name", "data_type", "bit_length", "bit_offset")
-ORDERS: Mapping[str, Callable[[Any, Any], Any]] = {
-    "==": operator.eq,
-    "!=": operator.ne,
-    "<": operator.lt,
-    "<=": operator.le,
-    ">": operator.gt,
-    ">=": operator.ge,
-}
 
 
 def read(path: str | os.PathLike[str]) -> "System":
@@ -51,46 +40,6 @@ def read(path: str | os.PathLike[str]) -> "System":
     index = Index()
     index.add(read_root(path))
     return System(index)
-
-
-@dataclass(frozen=True)
-class Field:
-    """A field of a container.
-
-    name       the name of its column: the parameter's, or its path where two of the container have one name, without spaces at its
-               ends.  Behind a name that another column has stand as many underscores as make it another one
-    parameter  the parameter's path
-    type       `uint`, `int`, `float` or `str`
-    bits       its length
-    offset     where it begins, in bits from the packet's first bit
-    decoder    what makes its meaning of its raw value; None where that is its value
-    raw        the name of the column of its raw value
-    part       what is behind the parameter's name: the member of an aggregate, or the index of an array, as `.MODE` or `[0]`
-    """
-
-    name: str
-    parameter: str
-    type: str
-    bits: int
-    offset: int
-    decoder: Decoder | None
-    raw: str
-    part: str = ""
-
-
-@dataclass(frozen=True)
-class Condition:
-    """What a row has to keep: a column, how it is compared, and with what."""
-
-    column: str
-    order: str
-    value: Any
-
-    def kept(self, fields: Fields) -> Sequence[bool]:
-        values, compare = fields[self.column], ORDERS[self.order]
-        if module("numpy") is None:
-            return [bool(compare(it, self.value)) for it in values]
-        return list(compare(values, self.value))
 
 
 class System:
@@ -175,12 +124,13 @@ class System:
         has one absolute time, that is also the time of each row.  `apid` says the application where the container doesn't; where
         it does, another number is refused.
 
+        The table's `short_packets` keep the container's conditions, and are shorter than it.  `unclear_count` says how many others
+        are so short that their fields for some condition are missing, and keep the other conditions.
+
         Raises XtceError, and what `Recording.fields` raises.
         """
-        fields, number, conditions = self.wanted(container, apid)
-        with definition_file(self.definition(container)) as name:
-            found = recording.fields(name, number, channel=channel, report=report, progress=progress)
-        return table_of(found, fields, conditions)
+        (found,) = self.tables(recording, container, None, apid, channel, report, progress)
+        return found
 
     def blocks(
         self,
@@ -193,21 +143,49 @@ class System:
         report: str | os.PathLike[str] | None = None,
         progress: Progress = False,
     ) -> Iterator[Fields]:
-        """The same as tables one by one, each of so many packets, of which those are left out that are another container's."""
-        fields, number, conditions = self.wanted(container, apid)
-        with definition_file(self.definition(container)) as name:
-            for found in recording.fields(name, number, channel=channel, report=report, progress=progress, blocks=rows):
-                yield table_of(found, fields, conditions)
+        """The same as tables one by one, each made of this number of packets without those of other containers.
 
-    def wanted(self, container: str, apid: Number | None) -> tuple[list[Field], Number, list[Condition]]:
+        The last one has `short_count`, and of `short_packets` the first hundred.
+        """
+        return self.tables(recording, container, number("rows", rows, RECORDS), apid, channel, report, progress)
+
+    def tables(
+        self,
+        recording: Recording,
+        container: str,
+        rows: int | None,
+        apid: Number | None,
+        channel: Numbers,
+        report: str | os.PathLike[str] | None,
+        progress: Progress,
+    ) -> Iterator[Fields]:
+        """The tables of `blocks`, or without a number of rows one of all.  Warns where packets came and none has a row."""
+        fields, application, conditions = self.wanted(container, apid)
+        channels = numbers("channel", channel, CHANNELS)
+        sieve = Sieve(application, channels, max((it.end for it in fields), default=0), conditions)
+        came = kept = 0
+        with definition_file(definition_of(fields)) as name:
+            table = Table(name, application, channels, report=report, sieve=sieve if conditions else None)
+            for found in read_tables(table, recording.source, recording.settings, rows, progress):
+                chosen = table_of(found, fields, conditions)
+                came, kept = came + found.rows, kept + chosen.rows
+                yield chosen
+        if conditions and not kept and (came := came + sieve.seen):
+            own, unclear = chosen.short_count, chosen.unclear_count
+            said = f"no packet of {self.path(container)} among {came} of application {application}"
+            said += f", but {own} of it {'is' if own == 1 else 'are'} too short for a row" if own else ""
+            said += f", and {unclear} {'is' if unclear == 1 else 'are'} too short to tell" if unclear else ""
+            warn(said, recording.source)
+
+    def wanted(self, container: str, apid: Number | None) -> tuple[list[Field], int, list[Condition]]:
         """The same as `asked`, with an application."""
         fields, said, conditions = self.asked(container)
-        number = said if apid is None else number_in("apid", apid, APPLICATIONS)
-        if number is None:
+        found = said if apid is None else number("apid", apid, APPLICATIONS)
+        if found is None:
             raise XtceError(self.path(container), "its packets have no application: say one by apid")
-        if said is not None and number != said:
-            raise XtceError(self.path(container), f"its packets have the application {said}, and apid says {number}")
-        return fields, number, conditions
+        if said is not None and found != said:
+            raise XtceError(self.path(container), f"its packets have the application {said}, and apid says {found}")
+        return fields, found, conditions
 
 
 @contextmanager
@@ -278,58 +256,3 @@ def definition_of(fields: Sequence[Field]) -> str:
     rows.writerow(HEADING)
     rows.writerows((it.name, it.type, it.bits, it.offset) for it in fields)
     return text.getvalue()
-
-
-# Comparisons.
-
-
-def field_of(fields: Sequence[Field], compared: Compared, path: str) -> Field:
-    """The field that is compared.  Raises XtceError where it isn't among the container's."""
-    for it in fields:
-        if (it.parameter, it.part) == (compared.parameter, compared.suffix):
-            return it
-    raise XtceError(path, f"{compared.parameter}{compared.suffix} is compared, and has no place in it")
-
-
-def is_application(field: Field, compared: Compared) -> bool:
-    return compared.order == "==" and (field.offset, field.bits) == APPLICATION and field.type == "uint"
-
-
-def application(field: Field, compared: Compared, path: str) -> int:
-    """The application that a comparison asks for: a number, or its label."""
-    if compared.is_calibrated and isinstance(field.decoder, Labels):
-        found = [it for it, label in field.decoder.labels.items() if label == compared.value]
-        if len(found) == 1 and isinstance(found[0], int):
-            return found[0]
-    value = number_of(compared.value)
-    if not isinstance(value, int) or not 0 <= value <= 2047:
-        raise XtceError(path, f"{compared.value!r} is no application")
-    return value
-
-
-def condition(field: Field, compared: Compared, path: str) -> Condition:
-    """What a comparison asks of rows.  Raises XtceError where it isn't understood."""
-    if compared.order not in ORDERS:
-        raise XtceError(path, f"the comparison {compared.order!r} is not known")
-    decoder = field.decoder if compared.is_calibrated else None
-    by_name = isinstance(decoder, (Labels, Truth, Text))
-    value: Any = compared.value if isinstance(decoder, (Labels, Text)) else number_of(compared.value)
-    if isinstance(decoder, Labels) and value not in decoder.labels.values():
-        value = None
-    if isinstance(decoder, Truth):
-        said = {"0": False, "false": False, decoder.zero: False, "1": True, "true": True, decoder.one: True}
-        value = said.get(compared.value, said.get(compared.value.lower()))
-    if value is None or by_name and compared.order not in ("==", "!=") or isinstance(decoder, Timed):
-        raise XtceError(path, f"{field.name} {compared.order} {compared.value!r} is not understood")
-    if decoder is None and field.type == "str":
-        raise XtceError(path, f"{field.name} has octets, which are not compared")
-    return Condition(field.name if decoder is not None else field.raw, compared.order, value)
-
-
-def number_of(text: str) -> int | float | None:
-    """The number of a text, a whole one if it is that; None where it is none."""
-    found, said = whole(text), decimal(text)
-    if found is None and said is not None:
-        value = float(said)
-        return int(value) if value.is_integer() else value
-    return found

@@ -8,6 +8,7 @@ import random
 import struct
 import subprocess
 import time
+import tracemalloc
 import unittest
 import warnings
 from collections import Counter
@@ -749,6 +750,24 @@ class TooShort(TestCase):
             self.assertEqual((whole.short_count, len(whole.short_packets)), (250, 250))
             (last,) = written(LEVELS).blocks(self.given([b"\7"] * 250 + payloads[-1:], kind), "LOW", 10)
             self.assertEqual((last.short_count, len(last.short_packets), last.unclear_count), (250, 100, 0))
+
+    def test_memory_of_blocks(self) -> None:
+        """Lines of 60,000 packets that are too short have over 4 MB."""
+        packets = struct.pack(">HHH3s", APID, 0xC000, 2, b"\7\2\1") * 226  # 2034 octets
+        octets = b"".join(struct.pack(">HBBH", 42 << 4, it % 256, it % 256, 0) + packets for it in range(266))
+        Path("d.csv").write_text("name,data_type,bit_length\nA,uint,64\n")
+        system = written(LEVELS)
+        (_,) = system.blocks(self.given([b"\7\2\1"], "file"), "LAST", 10)  # imports what is there
+        Path("it.rec").write_bytes(octets)
+        for given in ("it.rec", "stream"):
+            recording = tmx.Recording(io.BytesIO(octets) if given == "stream" else given, tmx.Settings(42, 2040, False))
+            for call in (lambda: system.blocks(recording, "LAST", 10), lambda: recording.fields("d.csv", APID, blocks=10)):
+                tracemalloc.start()
+                (last,) = call()
+                _, most = tracemalloc.get_traced_memory()
+                tracemalloc.stop()
+                self.assertEqual((last.rows, last.short_count, len(last.short_packets)), (0, 226 * 266, 100))
+                self.assertLess(most, 3 << 20)
 
     def test_the_example(self) -> None:
         """Each report of housekeeping has the length of its container: none is too short."""

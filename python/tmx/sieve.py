@@ -7,17 +7,20 @@ from typing import TYPE_CHECKING, Any, Protocol
 
 from .errors import DisagreementError
 from .lines import ShortPacket
-from .packets import Chosen, parts_in
+from .packets import parts_in
 from .runs import Command, Runs
 
 if TYPE_CHECKING:
     from .fields import Fields
 
-MOST_KNOWN = 1 << 16  # raw values whose comparison is kept
+MOST_KNOWN = 1 << 12  # octets whose comparison is kept
 
 
 class Placed(Protocol):
-    """A field of packets."""
+    """A field of packets: its first bit, and the bit behind it."""
+
+    @property
+    def offset(self) -> int: ...
 
     @property
     def end(self) -> int: ...
@@ -55,19 +58,24 @@ class Sieve:
     unclear: int = 0
     most: int | None = None  # lines that are kept; None is all
     lines: list[bytes] = field(default_factory=list)
-    known: dict[tuple[int, Any], bool] = field(default_factory=dict)
+    known: dict[bytes, bool | None] = field(default_factory=dict)  # by the octets that the conditions are about
     rest: bytes = b""
     command: Command = Command(["packets", "--binary", "--report", os.devnull])
 
+    def __post_init__(self) -> None:
+        self.begin = min((it.field.offset // 8 for it in self.conditions), default=0)
+        self.end = max((-(-it.field.end // 8) for it in self.conditions), default=0)
+
     def take(self, octets: bytes) -> None:
         """Looks at the packets in what the program gives next."""
-        block, chosen = self.rest + octets, Chosen(frozenset({self.apid}), self.channels)
+        block = self.rest + octets
         found, end = parts_in(block)
         self.rest = block[end:]
+        high, low, needed = self.apid >> 8, self.apid & 255, -(-self.bits // 8)
         for lead, packet in found:
-            if 8 * len(packet) < self.bits and chosen.has((packet[0] & 7) << 8 | packet[1], lead[3]):
-                self.seen += 1
-                self.sort(lead, packet)
+            if lead[4] < needed and packet[1] == low and packet[0] & 7 == high:
+                if self.channels is None or lead[3] in self.channels:
+                    self.add(lead, packet)
 
     def read(self, runs: Runs) -> None:
         """Looks at the packets that a run gives, which is the only one."""
@@ -75,27 +83,27 @@ class Sieve:
             self.take(octets)
         runs.finish()
 
-    def sort(self, lead: Sequence[int], packet: bytes) -> None:
-        """Counts a packet if it may be the container's."""
-        there = [number for number, it in enumerate(self.conditions) if it.field.end <= 8 * len(packet)]
-        if not all(self.is_kept(it, packet) for it in there):
-            return
-        if len(there) < len(self.conditions):
-            self.unclear += 1
+    def add(self, lead: Sequence[int], packet: bytes) -> None:
+        """Counts a packet that is too short."""
+        self.seen += 1
+        keeps = self.keeps(packet)
+        self.unclear += keeps is None
+        if not keeps:
             return
         self.count += 1
         if self.most is None or len(self.lines) < self.most:
             line = ShortPacket(lead[0], lead[3], lead[1], lead[2], self.bits, 8 * len(packet))
             self.lines.append(f"{line}\n".encode("ascii"))
 
-    def is_kept(self, number: int, packet: bytes) -> bool:
-        """Whether a packet keeps a condition."""
-        it = self.conditions[number]
-        key = number, it.field.raw_value(packet)
+    def keeps(self, packet: bytes) -> bool | None:
+        """Whether a packet keeps the conditions; None where it keeps those whose fields it has, and lacks fields of others."""
+        key = packet[self.begin : self.end]  # a packet that lacks some has fewer octets here
         if key not in self.known:
             if len(self.known) >= MOST_KNOWN:
                 self.known.clear()
-            self.known[key] = it.is_kept(key[1])
+            there = [it for it in self.conditions if it.field.end <= 8 * len(packet)]
+            is_whole = len(there) == len(self.conditions)
+            self.known[key] = (is_whole or None) if all(it.is_kept(it.field.raw_value(packet)) for it in there) else False
         return self.known[key]
 
     def give_to(self, fields: "Fields") -> None:

@@ -13,6 +13,7 @@ import unittest
 import warnings
 from collections import Counter
 from datetime import datetime, timedelta
+from fractions import Fraction
 from pathlib import Path
 from unittest import mock
 from xml.etree.ElementTree import Element, fromstring, tostring
@@ -128,6 +129,7 @@ TIME = (
 )
 U32, F64 = '<IntegerDataEncoding sizeInBits="32"/>', '<FloatDataEncoding sizeInBits="64"/>'
 OF_2000 = "<Epoch>2000-01-01</Epoch>"
+LITTLE = 'byteOrder="leastSignificantByteFirst"'
 SECONDS = (1167264018).to_bytes(4, "big")  # of GPS, where 2017 began
 
 
@@ -142,6 +144,7 @@ VALUES = (
     (INTEGER.format(12, 'encoding="twosComplement"', ""), b"\xff\xef", -2),
     (INTEGER.format(8, 'encoding="twosCompliment"', ""), b"\xfe\0", -2),
     (INTEGER.format(8, 'byteOrder="leastSignificantByteFirst"', ""), b"\x07\0", 7),
+    (INTEGER.format(8, LITTLE, "").replace('sizeInBits="8"', ""), b"\x07\0", 7),
     (INTEGER.format(16, 'encoding="unsigned"', CALIBRATED.format(POLYNOMIAL)), b"\0\x0a", 47.0),
     (INTEGER.format(8, "", CALIBRATED.format(SPLINE.format(""))), b"\x03\0", 15.0),
     (INTEGER.format(8, "", CALIBRATED.format(SPLINE.format(""))), b"\x05\0", None),
@@ -217,7 +220,6 @@ PLACES = (
 
 DYNAMIC = "<DynamicValue><ParameterInstanceRef parameterRef='COUNT'/></DynamicValue>"
 NO_TYPE = '<StringParameterType name="T"/>'
-LITTLE = 'byteOrder="leastSignificantByteFirst"'
 REFUSED = (
     (one(INTEGER.format(65, "", "")), "/Sat/A: an integer unsigned of 65 bits is not read"),
     (one(INTEGER.format(8, 'encoding="signMagnitude"', "")), "/Sat/A: an integer signMagnitude of 8 bits is not read"),
@@ -289,6 +291,18 @@ REFUSED = (
     (system("", "", container("C", "", "<CustomAlgorithm/>")), "/Sat/C: CustomAlgorithm is not read"),
     (system("", "", container("C", "", f"{OF_300}<NextContainer/>")), "/Sat/C: NextContainer is not read"),
     (system("", "", container("C", "", OF_300.replace("/>", ' instance="-1"/>'))), "/Sat/C: the instance -1 of APID is not read"),
+    (system("", "", container("C", "", f"<ComparisonList>{OF_300}<Other/></ComparisonList>")), "/Sat/C: Other is not read"),
+    (system("", "", container("C", "", OF_300.replace("/>", ' useCalibratedValue="yes"/>'))), "/Sat/C: useCalibratedValue is 'yes',"),
+    (one(INTEGER.format(8, "", CALIBRATED.format(SPLINE.format('extrapolate="no"')))), "/Sat/A: extrapolate is 'no', which is neither"),
+    (one(U8 + AGGREGATE.replace('name="T"', 'name="T" baseType="u8"')), "/Sat/A: the AggregateParameterType /Sat/T extends another"),
+    (
+        system("", "", container("C", "", more='<BinaryEncoding bitOrder="leastSignificantBitFirst"/>')),
+        "/Sat/C: the least significant bit comes first",
+    ),
+    (
+        system("", "", container("C", "", more="<BinaryEncoding><FromBinaryTransformAlgorithm/></BinaryEncoding>")),
+        "/Sat/C: algorithms are not run",
+    ),
     (
         system("", "", container("D", "") + container("C", '<ContainerRefEntry containerRef="D"/>')),
         "/Sat/D: it is included, and has RestrictionCriteria",
@@ -421,6 +435,32 @@ class System(TestCase):
                 self.assertRegex(written(text).refusals()["/Sat/C"], "is not understood$")
             else:
                 self.assertEqual(plain(table(text, payload)["tm_record"]), wanted, (type_, said))
+
+    def test_truth_values_that_are_spelled_otherwise(self) -> None:
+        """What a mission calls 0 and 1 counts before what they are called else."""
+        for zero, one_, said, wanted in (
+            ("true", "false", "true", [0]),
+            ("true", "false", "false", [1]),
+            ("1", "0", "1", [0]),
+            ("OFF", "ON", "true", [1]),
+            ("X", "X", "X", None),
+        ):
+            type_ = f'<BooleanParameterType name="T" zeroStringValue="{zero}" oneStringValue="{one_}"><IntegerDataEncoding/></BooleanParameterType>'
+            both = f'<ComparisonList>{OF_300}<Comparison parameterRef="A" value="{said}"/></ComparisonList>'
+            text = one(type_).replace(OF_300, both)
+            if wanted is None:
+                self.assertRegex(written(text).refusals()["/Sat/C"], "is not understood$")
+            else:
+                self.assertEqual(plain(table(text, b"\0", b"\1")["tm_record"]), wanted, (zero, one_, said))
+
+    def test_an_application_that_is_calibrated(self) -> None:
+        """Its calibrated value is 2 x; the comparison with 600 is kept by 300, which doesn't say which application that is."""
+        double = CALIBRATED.format('<PolynomialCalibrator><Term coefficient="2" exponent="1"/></PolynomialCalibrator>')
+        calibrated = INTEGER.format(11, "", double).replace('"T"', '"u11"')
+        text = one(BYTE).replace(integers(("APID", 11))[0], calibrated).replace('value="300"', 'value="600"')
+        self.assertEqual((written(text).apid("C"), written(text).refusals()), (None, {}))
+        self.assertEqual(plain(table(text, b"ab", apid=300)["A"]), [97])
+        self.assertEqual(written(text.replace('value="600"', 'value="300" useCalibratedValue="false"')).apid("C"), 300)
 
     def test_an_application_by_its_label(self) -> None:
         label = ENUMERATED.replace('"T"', '"u11"').replace("Encoding/>", 'Encoding sizeInBits="11"/>').replace("1F", "300")
@@ -839,8 +879,8 @@ class Made:
     def __init__(self, chance: random.Random, name: str) -> None:
         self.chance, self.name = chance, name
         self.bits = chance.choice((1, 3, 8, 12, 16, 31, 32, 33, 63, 64))
-        kinds = (self.unsigned, self.signed, self.real, self.boolean, self.labelled, self.text, self.octets, self.when, self.curve)
-        self.type, self.value = chance.choice(kinds)()
+        kinds = [self.unsigned, self.signed, self.real, self.boolean, self.labelled, self.text, self.octets, self.when, self.curve]
+        self.type, self.value = chance.choice([*kinds, self.ranged, self.line])()
 
     def whole(self, more: str = "", inside: str = "") -> str:
         return f'<IntegerDataEncoding sizeInBits="{self.bits}" {more}>{inside}</IntegerDataEncoding>'
@@ -871,6 +911,35 @@ class Made:
         rows = "".join(f'<Enumeration value="{it}" label="L{it}"/>' for it in known)
         text = self.named("Enumerated", f"{self.whole()}<EnumerationList>{rows}</EnumerationList>")
         return text, lambda sent: f"L{sent}" if sent in known else None
+
+    def ranged(self):
+        """Labels of ranges that overlap: the first counts."""
+        ends = [sorted((self.sent(), self.sent())) for _ in range(4)]
+        rows = "".join(f'<Enumeration value="{least}" maxValue="{most}" label="R{it}"/>' for it, (least, most) in enumerate(ends))
+        text = self.named("Enumerated", f"{self.whole()}<EnumerationList>{rows}</EnumerationList>")
+        return text, lambda sent: next((f"R{it}" for it, (least, most) in enumerate(ends) if least <= sent <= most), None)
+
+    def line(self):
+        """Steps or lines between points, whose order stands at the spline or at each point."""
+        self.bits = self.chance.randrange(4, 33)
+        points = sorted({self.sent(): self.chance.randrange(-1000, 1000) for _ in range(6)}.items())
+        order, extrapolate, at_points = (self.chance.randrange(2) for _ in range(3))
+        own = f'order="{order}"' if at_points else ""
+        rows = "".join(f'<SplinePoint {own} raw="{raw}" calibrated="{value}"/>' for raw, value in points)
+        said = f'order="{1 - order if at_points else order}" extrapolate="{bool(extrapolate)}"'
+        calibrator = CALIBRATED.format(f"<SplineCalibrator {said}>{rows}</SplineCalibrator>")
+
+        def value(sent: int) -> float:
+            if not extrapolate and not points[0][0] <= sent <= points[-1][0]:
+                return math.nan
+            at = max(0, sum(raw <= sent for raw, _ in points) - 1)
+            if order == 0 or len(points) == 1:
+                return float(points[at][1])
+            at = min(at, len(points) - 2)
+            (raw, low), (next_raw, high) = points[at : at + 2]
+            return float(low + Fraction(high - low, next_raw - raw) * (sent - raw))
+
+        return self.named("Float", self.whole("", calibrator)), value
 
     def text(self):
         self.bits = 8 * self.chance.randrange(1, 12)

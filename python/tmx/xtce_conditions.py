@@ -115,7 +115,9 @@ def field_of(fields: Sequence[Field], compared: Compared, path: str) -> Field:
 
 
 def is_application(field: Field, compared: Compared) -> bool:
-    return compared.order == "==" and (field.offset, field.bits) == APPLICATION and field.type == "uint"
+    """Whether a comparison asks for an application: by its number, or by its label."""
+    is_number = field.decoder is None or isinstance(field.decoder, Labels) or not compared.is_calibrated
+    return is_number and compared.order == "==" and (field.offset, field.bits, field.type) == (*APPLICATION, "uint")
 
 
 def application(field: Field, compared: Compared, path: str) -> int:
@@ -140,8 +142,8 @@ def condition(field: Field, compared: Compared, path: str) -> Condition:
     if isinstance(decoder, Labels) and value not in decoder.labels.values():
         value = None
     if isinstance(decoder, Truth):
-        said = {"0": False, "false": False, decoder.zero: False, "1": True, "true": True, decoder.one: True}
-        value = said.get(compared.value, said.get(compared.value.lower()))
+        said = {"0": False, "false": False, "1": True, "true": True} | {decoder.zero: False, decoder.one: True}
+        value = said.get(compared.value, said.get(compared.value.lower())) if decoder.zero != decoder.one else None
     if value is None or by_name and compared.order not in ("==", "!=") or isinstance(decoder, Timed):
         raise XtceError(path, f"{field.name} {compared.order} {compared.value!r} is not understood")
     if decoder is None and field.type == "str":

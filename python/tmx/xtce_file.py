@@ -58,9 +58,12 @@ def child(element: Element | None, *names: str) -> Element | None:
     return element
 
 
-def says(element: Element, name: str, default: bool) -> bool:
-    """The truth that an attribute says."""
-    return element.get(name, str(default)).lower() in ("true", "1")
+def says(element: Element, name: str, default: bool, path: str) -> bool:
+    """The truth that an attribute says.  Raises XtceError where it says none."""
+    said = element.get(name, str(default)).strip(SPACES).lower()
+    if said not in ("true", "1", "false", "0"):
+        raise XtceError(path, f"{name} is {shortened(element.get(name))}, which is neither true nor false")
+    return said in ("true", "1")
 
 
 def whole(text: str | None) -> int | None:

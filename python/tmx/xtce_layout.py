@@ -6,7 +6,7 @@ from dataclasses import dataclass, field
 from xml.etree.ElementTree import Element
 
 from .xtce_file import Index, XtceError, below, child, children, fixed, local, says
-from .xtce_types import MOST, MOST_STEPS, Kind, Types
+from .xtce_types import MOST, MOST_STEPS, Kind, Types, refuse_orders
 
 LONGEST = 8 * 65542  # bits of a packet
 
@@ -76,7 +76,10 @@ class Walk:
         for entry in below(child(element, "EntryList")):
             at = self.entry(entry, path, start, at)
         self.open.pop()
-        size = child(element, "BinaryEncoding", "SizeInBits")
+        encoding = child(element, "BinaryEncoding")
+        if encoding is not None:
+            refuse_orders(encoding, path, is_checked=True)
+        size = child(encoding, "SizeInBits")
         return at if size is None or is_outer else start + fixed(size, path, "the size")
 
     def entry(self, entry: Element, path: str, start: int, previous: int) -> int:
@@ -143,7 +146,9 @@ class Walk:
                 raise XtceError(path, "it is included, and has RestrictionCriteria")
             if local(it) not in ("Comparison", "ComparisonList"):
                 raise XtceError(path, f"{local(it)} is not read")
-            for comparison in [it] if local(it) == "Comparison" else children(it, "Comparison"):
+            for comparison in [it] if local(it) == "Comparison" else below(it):
+                if local(comparison) != "Comparison":
+                    raise XtceError(path, f"{local(comparison)} is not read")
                 self.found.compared.append(self.comparison(comparison, path))
 
     def comparison(self, element: Element, path: str) -> Compared:
@@ -152,7 +157,7 @@ class Walk:
             raise XtceError(path, f"the instance {element.get('instance')} of {name} is not read")
         parameter = self.index.find("parameters", name, path)
         order, value = element.get("comparisonOperator", "=="), element.get("value", "")
-        return Compared(parameter, suffix, order, value, says(element, "useCalibratedValue", True))
+        return Compared(parameter, suffix, order, value, says(element, "useCalibratedValue", True, path))
 
 
 def parts(reference: str) -> tuple[str, str]:

@@ -27,6 +27,7 @@ ALLOWED = {  # which encodings a type may have
     "BinaryParameterType": ("BinaryDataEncoding",),
     "AbsoluteTimeParameterType": NUMBERS,
 }
+SEVERAL = ("ArrayParameterType", "AggregateParameterType")  # types of several values
 CALIBRATED = ("IntegerParameterType", "FloatParameterType")
 MOST_FIRST, LEAST_FIRST = "mostSignificantByteFirst", "leastSignificantByteFirst"
 LITTLE = ("utf-16", "utf-16-le", "utf-32", "utf-32-le")  # encodings in which the least significant octet may come first
@@ -61,6 +62,8 @@ class Types:
             raise XtceError(path, f"the type {type_path} contains itself")
         if self.steps > MOST_STEPS:
             raise XtceError(path, "too many types and containers stand in one another")
+        if local(element) in SEVERAL and element.get("baseType") is not None:
+            raise XtceError(path, f"the {local(element)} {type_path} extends another type, which is not read")
         if local(element) == "ArrayParameterType":
             return self.array(element, type_path, path, child(element, "DimensionList"), depth)
         if local(element) == "AggregateParameterType":
@@ -146,8 +149,6 @@ def encoded(encoding: Element, path: str) -> tuple[str, int]:
             raise XtceError(path, "a text with a leading size is not read")
         return "str", octets(fixed(child(encoding, "SizeInBits", "Fixed"), path, "the size"), path)
     if kind == "BinaryDataEncoding":
-        if child(encoding, "FromBinaryTransformAlgorithm") is not None:
-            raise XtceError(path, "algorithms are not run")
         return "str", octets(fixed(child(encoding, "SizeInBits"), path, "the size"), path)
     if kind == "FloatDataEncoding":
         said, bits = encoding.get("encoding", FLOATS[0]), integer(encoding.get("sizeInBits", "32"), path)
@@ -167,16 +168,21 @@ def octets(bits: int, path: str) -> int:
     return bits
 
 
-def refuse_orders(encoding: Element, path: str) -> None:
-    """Refuses what doesn't have the most significant bit first, or has check bits.  Some texts may have the least octet first."""
-    several = encoding.get("sizeInBits", "16") != "8"
+def refuse_orders(encoding: Element, path: str, is_checked: bool = False) -> None:
+    """Refuses what doesn't have the most significant bit first, is made by an algorithm, or has check bits if it isn't to.
+
+    Some texts may have the least significant octet first.
+    """
+    several = encoding.get("sizeInBits", "8" if local(encoding) in WHOLE else "16") != "8"
     if encoding.get("bitOrder", "mostSignificantBitFirst") != "mostSignificantBitFirst":
         raise XtceError(path, "the least significant bit comes first, which is not read")
     if several and encoding.get("byteOrder", MOST_FIRST) not in (MOST_FIRST, *little_of(encoding, path)):
         raise XtceError(path, f"the byte order {encoding.get('byteOrder')} is not read")
     if several and child(encoding, "ByteOrderList") is not None:
         raise XtceError(path, "a ByteOrderList is not read")
-    if child(encoding, "ErrorDetectCorrect") is not None:
+    if child(encoding, "FromBinaryTransformAlgorithm") is not None:
+        raise XtceError(path, "algorithms are not run")
+    if not is_checked and child(encoding, "ErrorDetectCorrect") is not None:
         raise XtceError(path, "ErrorDetectCorrect is not read")
 
 
@@ -218,7 +224,7 @@ def calibrator(default: Element | None, path: str) -> Decoder | None:
         raise XtceError(path, "its calibrator is neither a polynomial nor a spline")
     found = [(real(it.get("raw"), path), real(it.get("calibrated"), path)) for it in children(spline, "SplinePoint")]
     try:
-        return Spline(tuple(found), order_of(spline, path), says(spline, "extrapolate", False))
+        return Spline(tuple(found), order_of(spline, path), says(spline, "extrapolate", False, path))
     except ValueError as error:
         raise XtceError(path, str(error)) from None
 

@@ -863,11 +863,17 @@ class TooShort(TestCase):
                 written(LEVELS).fields(self.given([*payloads, b"\7\2\1" + bytes(8)], "stream"), container)
 
     def test_a_recording_that_changes(self) -> None:
-        """The program tells two packets, and then one."""
+        """The fields are those of two packets.  When short ones are looked at, the recording has one, or four."""
         given = self.given([b"\7\2\1"] * 2, "file")
-        self.program('case "$1" in packets) head -c 54 it.rec > short.rec; exec "$real" packets --binary --settings "$6" short.rec;; esac; exec "$real" "$@"')
-        with self.assertRaisesRegex(tmx.DisagreementError, "^1 packets are too short for a row, and the report has 2: did the"):
-            written(LEVELS).fields(given, "LAST")
+        for changed in ("head -c 54 it.rec", "cat it.rec it.rec"):
+            again = f'{changed} > other.rec; exec "$real" packets --binary --report /dev/null --settings "$6" other.rec'
+            self.program(f'case "$1" in packets) {again};; esac; exec "$real" "$@"')
+            if changed.startswith("cat"):
+                found = written(LEVELS).fields(given, "LAST")
+                self.assertEqual((found.rows, found.short_count, [it.record for it in found.short_packets]), (0, 2, [0, 1]))
+                continue
+            with self.assertRaisesRegex(tmx.DisagreementError, "^1 packets are too short for a row, and the report has 2: did the"):
+                written(LEVELS).fields(given, "LAST")
 
 
 # Random systems.

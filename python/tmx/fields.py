@@ -319,7 +319,7 @@ def read_tables(
     if sieve is not None and last.short_count:
         if not is_stream:
             with running(source, settings, sieve.command) as again:
-                sieve.read(again)
+                sieve.read(again, last.short_count)
         sieve.give_to(last)
     yield last
 

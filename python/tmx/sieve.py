@@ -57,6 +57,7 @@ class Sieve:
     count: int = 0
     unclear: int = 0
     most: int | None = None  # lines that are kept; None is all
+    told: int | None = None  # packets that are looked at, where the recording may have grown since the program told this number
     lines: list[bytes] = field(default_factory=list)
     known: dict[bytes, bool | None] = field(default_factory=dict)  # by the octets that the conditions are about
     rest: bytes = b""
@@ -77,14 +78,17 @@ class Sieve:
                 if self.channels is None or lead[3] in self.channels:
                     self.add(lead, packet)
 
-    def read(self, runs: Runs) -> None:
-        """Looks at the packets that a run gives, which is the only one."""
+    def read(self, runs: Runs, told: int) -> None:
+        """Looks at the packets that a run gives, which is the only one, up to this number of them that are too short."""
+        self.told = told
         while octets := runs.chunk(0):
             self.take(octets)
         runs.finish()
 
     def add(self, lead: Sequence[int], packet: bytes) -> None:
         """Counts a packet that is too short."""
+        if self.seen == self.told:
+            return
         self.seen += 1
         keeps = self.keeps(packet)
         self.unclear += keeps is None

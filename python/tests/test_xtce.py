@@ -291,6 +291,11 @@ REFUSED = (
     (system("", "", container("C", "", "<CustomAlgorithm/>")), "/Sat/C: CustomAlgorithm is not read"),
     (system("", "", container("C", "", f"{OF_300}<NextContainer/>")), "/Sat/C: NextContainer is not read"),
     (system("", "", container("C", "", OF_300.replace("/>", ' instance="-1"/>'))), "/Sat/C: the instance -1 of APID is not read"),
+    (one(BYTE.replace("<IntegerData", "<FloatDataEncoding/><IntegerData")), "/Sat/A: /Sat/T has data encoding twice"),
+    (one(INTEGER.format(8, "", CALIBRATED.format(POLYNOMIAL + SPLINE.format("")))), "/Sat/A: /Sat/T has calibrator twice"),
+    (one(TIME.format("", U32, "<Epoch>UNIX</Epoch><Epoch>GPS</Epoch>")), "/Sat/A: /Sat/T has Epoch twice"),
+    (system("", "", container("C", "", more="<EntryList/>")), "/Sat/C: it has EntryList twice"),
+    (system("", "", container("C", "", f"{OF_300}</RestrictionCriteria><RestrictionCriteria>")), "/Sat/C: it has Restriction"),
     (system("", "", container("C", "", f"<ComparisonList>{OF_300}<Other/></ComparisonList>")), "/Sat/C: Other is not read"),
     (system("", "", container("C", "", OF_300.replace("/>", ' useCalibratedValue="yes"/>'))), "/Sat/C: useCalibratedValue is 'yes',"),
     (one(INTEGER.format(8, "", CALIBRATED.format(SPLINE.format('extrapolate="no"')))), "/Sat/A: extrapolate is 'no', which is neither"),
@@ -590,7 +595,8 @@ class Files(TestCase):
         begin, twice = time.monotonic(), '<ContainerRefEntry containerRef="C{0}"/>' * 2
         empty = '<SequenceContainer name="{}"><EntryList>{}</EntryList></SequenceContainer>'
         grown = "".join(empty.format(f"C{it}", twice.format(it - 1) if it else "") for it in range(40))
-        self.assertIn("too many types and containers", written(system("", "", grown)).refusals()["/Sat/C39"])
+        error = self.raises(tmx.XtceError, None, written(system("", "", grown)).definition, "C39")
+        self.assertEqual(str(error), "/Sat/C39: too many types and containers stand in one another")
         member = '<AggregateParameterType name="{}"><MemberList>{}</MemberList></AggregateParameterType>'
         ten = "".join(f'<Member name="M{it}" typeRef="{{0}}"/>' for it in range(10))
         grown = "".join(member.format("T" if it == 18 else f"T{it}", ten.format(f"T{it - 1}") if it else "") for it in range(19))

@@ -18,6 +18,13 @@ WHOLE = re.compile("[-+]?[0-9]+|0[xX][0-9a-fA-F]+|0[oO][0-7]+|0[bB][01]+")
 BASES = {"0x": 16, "0o": 8, "0b": 2}
 REAL = re.compile("[-+]?([0-9]+([.][0-9]*)?|[.][0-9]+)([eE][-+]?[0-9]{1,3})?")
 MOST_LETTERS = 100  # of a number
+ENCODINGS = ("IntegerDataEncoding", "FloatDataEncoding", "StringDataEncoding", "BinaryDataEncoding")
+CALIBRATORS = ("PolynomialCalibrator", "SplineCalibrator", "MathOperationCalibrator")
+ONCE = {it: it for it in (  # what an element has once at most; of a kind of several names any one counts
+    *("EntryList", "BaseContainer", "RestrictionCriteria", "BinaryEncoding", "DefaultCalibrator", "EnumerationList", "Encoding"),
+    *("ReferenceTime", "Epoch", "SizeInBits", "Fixed", "FixedValue", "TerminationChar", "LocationInContainerInBits", "RepeatEntry"),
+    *("Count", "Offset", "DimensionList", "StartingIndex", "EndingIndex", "MemberList"),
+)} | dict.fromkeys(ENCODINGS, "data encoding") | dict.fromkeys(CALIBRATORS, "calibrator")  # fmt: skip
 INCLUDE = "{http://www.w3.org/2001/XInclude}include"
 
 
@@ -56,6 +63,15 @@ def child(element: Element | None, *names: str) -> Element | None:
     for name in names:
         element = next(children(element, name), None)
     return element
+
+
+def doubled(element: Element) -> str | None:
+    """What an element or one in it has twice, and may have once; None where there is nothing."""
+    for it in element.iter():
+        kinds = [ONCE[name] for inner in it if (name := local(inner)) in ONCE]
+        if len(kinds) > len(set(kinds)):
+            return next(kind for at, kind in enumerate(kinds) if kind in kinds[:at])
+    return None
 
 
 def says(element: Element, name: str, default: bool, path: str) -> bool:
@@ -154,12 +170,17 @@ def refuse_doctype(file: IO[bytes], name: str) -> None:
 
 @dataclass
 class Index:
-    """The elements that a file defines, by their paths: `/System/Part/NAME`.  `twice` are paths that two of a kind have."""
+    """The elements that a file defines, by their paths: `/System/Part/NAME`.
+
+    twice    paths that two of a kind have
+    doubled  for elements of a kind what they have twice, and may have once
+    """
 
     types: dict[str, Element] = field(default_factory=dict)
     parameters: dict[str, Element] = field(default_factory=dict)
     containers: dict[str, Element] = field(default_factory=dict)
     twice: set[str] = field(default_factory=set)
+    doubled: dict[tuple[str, str], str] = field(default_factory=dict)
 
     def add(self, root: Element) -> None:
         """Adds what a SpaceSystem defines, and the systems in it."""
@@ -169,15 +190,18 @@ class Index:
             path = f"{above}/{system.get('name', '')}"
             for group in below(child(system, "TelemetryMetaData")):
                 if (kind := SETS.get(local(group))) is not None:
-                    self.add_all(getattr(self, kind), group, path)
+                    self.add_all(kind, group, path)
             systems += reversed([(it, path) for it in children(system, "SpaceSystem")])
 
-    def add_all(self, found: dict[str, Element], group: Element, system: str) -> None:
+    def add_all(self, kind: str, group: Element, system: str) -> None:
+        found: dict[str, Element] = getattr(self, kind)
         for it in group:
             if it.get("name"):
                 path = f"{system}/{it.get('name')}"
                 self.twice |= {path} if path in found else set()
                 found[path] = it
+                if (said := doubled(it)) is not None:
+                    self.doubled[kind, path] = said
 
     def find(self, kind: str, reference: str | None, of: str) -> str:
         """The path that a reference from the element of a path means: in its system, or in the nearest one around that has it.
@@ -197,6 +221,8 @@ class Index:
         if said in self.twice:
             raise XtceError(of, f"two elements have the path {said}")
         if said in found:
+            if (kind, said) in self.doubled:
+                raise XtceError(of, f"{said} has {self.doubled[kind, said]} twice")
             return said
         raise XtceError(of, f"there is no {WHAT[kind]} {said!r}")
 

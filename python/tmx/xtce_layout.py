@@ -69,6 +69,8 @@ class Walk:
         element, at = self.index.containers[path], start
         if local(element) != "SequenceContainer":
             raise XtceError(path, f"{local(element)} is not read")
+        if ("containers", path) in self.index.doubled:
+            raise XtceError(path, f"it has {self.index.doubled['containers', path]} twice")
         base = child(element, "BaseContainer")
         if base is not None:
             at = self.container(self.index.find("containers", base.get("containerRef"), path), start, is_outer)

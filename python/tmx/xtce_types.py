@@ -10,13 +10,12 @@ from xml.etree.ElementTree import Element
 from .decoding import Decoder, Labels, Polynomial, Spline, Text, Timed, Truth
 from .leap_seconds import LeapSecondsError
 from .time_codes import Ticks, fraction_of
-from .xtce_file import Index, XtceError, below, child, children, decimal, fixed, integer, local, real, says
+from .xtce_file import ENCODINGS, Index, XtceError, below, child, children, decimal, fixed, integer, local, real, says
 
 MOST = 1000  # fields of a definition
 MOST_STEPS = 5 * MOST  # types and entries that are looked at for one container
 INTEGERS = {"unsigned": "uint", "twosComplement": "int", "twosCompliment": "int"}  # the last as XTCE 1.1 spells it
 FLOATS = ("IEEE754_1985", "IEEE754")
-ENCODINGS = ("IntegerDataEncoding", "FloatDataEncoding", "StringDataEncoding", "BinaryDataEncoding")
 NUMBERS, WHOLE = ENCODINGS[:2], ENCODINGS[:1]
 ALLOWED = {  # which encodings a type may have
     "IntegerParameterType": NUMBERS,

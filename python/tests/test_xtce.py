@@ -450,7 +450,8 @@ class System(TestCase):
             ("OFF", "ON", "true", [1]),
             ("X", "X", "X", None),
         ):
-            type_ = f'<BooleanParameterType name="T" zeroStringValue="{zero}" oneStringValue="{one_}"><IntegerDataEncoding/></BooleanParameterType>'
+            names = f'zeroStringValue="{zero}" oneStringValue="{one_}"'
+            type_ = f'<BooleanParameterType name="T" {names}><IntegerDataEncoding/></BooleanParameterType>'
             both = f'<ComparisonList>{OF_300}<Comparison parameterRef="A" value="{said}"/></ComparisonList>'
             text = one(type_).replace(OF_300, both)
             if wanted is None:
@@ -512,8 +513,9 @@ class System(TestCase):
         self.assertEqual(self.named(spaced), dict(zip(("A", "A_", "A__", "_", "B  C", "B  C_"), (f"/Sat/{it}" for it in spaced))))
         odd = ['"', "a,b", "\u2028", "A.B", "=1", "\N{GRINNING FACE}", "a\rb"]
         self.assertEqual(list(self.named(odd)), [*odd[:-1], "a b"])
-        parts = written(one(U8 + AGGREGATE, entries("A", "A.LOW")).replace("</ParameterSet>", '<Parameter name="A.LOW" parameterTypeRef="u8"/></ParameterSet>'))
-        fields = [(it.name, it.parameter, it.part, it.offset) for it in parts.columns("C")[7:]]
+        other = '<Parameter name="A.LOW" parameterTypeRef="u8"/></ParameterSet>'
+        text = one(U8 + AGGREGATE, entries("A", "A.LOW")).replace("</ParameterSet>", other)
+        fields = [(it.name, it.parameter, it.part, it.offset) for it in written(text).columns("C")[7:]]
         wanted = [("A.LOW", "/Sat/A", ".LOW", 48), ("A.HIGH", "/Sat/A", ".HIGH", 56), ("A.LOW_", "/Sat/A.LOW", "", 64)]
         self.assertEqual(fields, wanted)
 
@@ -607,7 +609,8 @@ class Files(TestCase):
         """They mean one place: the system of Low has no A below it, though the file has one further up."""
         inner = container("C", entries("../A"), base="../../PACKET")
         lowest = lower("", "", inner).replace('name="Low"', 'name="Lowest"')
-        text = one(BYTE).replace("</SpaceSystem>", f"{lower('').replace('</TelemetryMetaData>', f'</TelemetryMetaData>{lowest}')}</SpaceSystem>")
+        low = lower("").replace("</TelemetryMetaData>", f"</TelemetryMetaData>{lowest}")
+        text = one(BYTE).replace("</SpaceSystem>", f"{low}</SpaceSystem>")
         said = {"/Sat/Low/Lowest/C": "/Sat/Low/Lowest/C: there is no parameter '../A'"}
         self.assertEqual(written(text).refusals(), said)
         found = written(text.replace('"../A"', '"../../A"'))
@@ -749,7 +752,8 @@ class TooShort(TestCase):
 
     def sorted(self, payloads: list[bytes], container: str) -> tuple[list[int], list[int], int]:
         """The records that have a row, those that are too short, and how many are too short to tell: by the octets themselves."""
-        wanted, needs = {"LAST": (("A", b"\7"), ("B", b"\2\1")), "LOW": (("A", b"\7"),), "ANY": ()}[container], {"LAST": "D", "LOW": "B", "ANY": "A"}
+        wanted = {"LAST": (("A", b"\7"), ("B", b"\2\1")), "LOW": (("A", b"\7"),), "ANY": ()}[container]
+        needs = {"LAST": "D", "LOW": "B", "ANY": "A"}
         rows, short, unclear = [], [], 0
         for record, payload in enumerate(payloads):
             packet, there = bytes(6) + payload, [it for it in wanted if ENDS_OF[it[0]] <= 6 + len(payload)]
@@ -828,7 +832,8 @@ class TooShort(TestCase):
         spelled = '<BooleanParameterType name="B"><IntegerDataEncoding sizeInBits="1"/></BooleanParameterType>'
         curve = INTEGER.format(8, "", CALIBRATED.format(POLYNOMIAL)).replace('"T"', '"P"')
         signed = INTEGER.format(7, 'encoding="twosComplement"', "").replace('"T"', '"S"')
-        types = ENUMERATED + spelled + curve + signed + FLOAT.format(32, "").replace('"T"', '"F"') + wide("UTF-16", size=16).replace('"T"', '"X"')
+        text = wide("UTF-16", size=16).replace('"T"', '"X"')
+        types = ENUMERATED + spelled + curve + signed + FLOAT.format(32, "").replace('"T"', '"F"') + text
         parameters = "".join(f'<Parameter name="{it}" parameterTypeRef="{it}"/>' for it in "BSTPFX")
         last = INTEGER.format(64, "", "").replace('"T"', '"L"')
         begin = struct.pack(">BBBf", 0x80 | 0x7E, 16, 4, 0.1) + "Ω".encode("utf-16-be")
@@ -878,7 +883,7 @@ class TooShort(TestCase):
                 found = written(LEVELS).fields(given, "LAST")
                 self.assertEqual((found.rows, found.short_count, [it.record for it in found.short_packets]), (0, 2, [0, 1]))
                 continue
-            with self.assertRaisesRegex(tmx.DisagreementError, "^1 packets are too short for a row, and the report has 2: did the"):
+            with self.assertRaisesRegex(tmx.DisagreementError, "^packets too short for a row: 1 now, and 2 in the report: did the"):
                 written(LEVELS).fields(given, "LAST")
 
 

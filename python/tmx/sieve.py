@@ -113,6 +113,6 @@ class Sieve:
     def give_to(self, fields: "Fields") -> None:
         """Tells a table which packets are too short for it.  Raises DisagreementError where the program told others."""
         if self.rest or self.seen != fields.short_count:
-            said = f"{self.seen} packets are too short for a row, and the report has {fields.short_count}"
+            said = f"packets too short for a row: {self.seen} now, and {fields.short_count} in the report"
             raise DisagreementError(f"{said}: did the recording change?")
         fields.short_lines, fields.short_count, fields.unclear_count = self.lines, self.count, self.unclear

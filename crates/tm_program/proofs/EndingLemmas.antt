@@ -11,7 +11,7 @@ use Rattle.tm_tool.specs.Runs.{Devices, IsEnough, Ran, kept_of}
 use Rattle.tm_tool.specs.declared.job.CountedRun.{CountedRun}
 use Rattle.tm_settings.specs.Settings.{Rules}
 use Rattle.tm_fields.specs.declared.field.Field.{Field}
-use Rattle.tm_program.specs.Found.{Finds, ending_of, ending_with, texts_for, totals_over, work_from}
+use Rattle.tm_program.specs.Found.{AreTexts, Finds, ending_of, ending_with, totals_over, work_from}
 use Rattle.tm_program.specs.code.Endings.{FindsDone, HasDone, HasShown, IsDone, IsListFound, requested_checkpoint}
 use Rattle.tm_program.specs.code.Tasks.{IsDestination, IsJob, IsOverview, folder_texts, texts_of}
 use Rattle.tm_program.specs.declared.task.Destination.{Destination}
@@ -65,25 +65,18 @@ file_of_done p settings job done (read, enough, count_is, kept_is, totals_is) = 
 
 -- ---- what is found
 
--- what a job gives of a packet is what the plan asks for, with some definition or none
-texts_asked : (p : Plan) (to : Destination) → IsDestination p to → (fields : Option (List Field)) × (texts_of to ≡ texts_for p.action p.binary fields p.apid)
-texts_asked p (Output Octets) is = (None, rw is refl)
-texts_asked p (Output Line) (is, flag) = (None, rw (is, flag) refl)
-texts_asked p (Output Binary) (is, flag) = (None, rw (is, flag) refl)
-texts_asked p (Output (Row definition application form)) (is, named, asked, flag) = (Some definition, rw (is, asked, flag) refl)
-texts_asked p (Folder dir) (is, named) = (None, rw is refl)
+-- what a job gives of a packet is what the plan asks for
+texts_asked : (p : Plan) (to : Destination) → IsDestination p to → AreTexts p.action p.binary p.apid (texts_of to)
+texts_asked p (Output Octets) is = rw is refl
+texts_asked p (Output Line) (is, flag) = rw (is, flag) refl
+texts_asked p (Output Binary) (is, flag) = rw (is, flag) refl
+texts_asked p (Output (Row definition application form)) (is, named, asked, flag) = rw (is, asked, flag) (definition, refl)
+texts_asked p (Folder dir) (is, named) = rw is refl
 
 pub found_of_done : (p : Plan) (settings : Rules) (job : JobInputs) (done : CountedRun) (f : Found)
     → IsJob p settings job → HasDone p settings job done → FindsDone done f → Finds p f
 found_of_done p settings job done (found.Packets records totals) (to, resumed, read_back) (read, enough, count_is, kept_is, totals_is) is =
-    let asked = texts_asked p job.destination to in (
-      settings,
-      asked.0,
-      job.resumed,
-      read,
-      enough,
-      is ∙ totals_is ∙ ap (λ (text : Texts ℕ). totals_over text (ending_of p) (work_from settings job.resumed) read) asked.1,
-    )
+    (settings, texts_of job.destination, job.resumed, read, texts_asked p job.destination to, enough, is ∙ totals_is)
 found_of_done p settings job done _ asked h is = absurd is
 
 pub found_of_shown : (overview : Overview) (rules : Rules) (left_old left_new out_old out_new : Option (List ℕ)) (f : Found)

@@ -51,23 +51,25 @@ work_from settings (Some job) = job.work
 abbrev pub row_form : Bool → RowForm
 row_form binary = if binary then Binary else Text
 
--- the texts of a packet, by the action, the flag `--binary`, the definition of fields and the application: octets are given where there are
--- no lines and no rows
-abbrev pub texts_for : Action → Bool → Option (List Field) → Option ℕ → Texts ℕ
-texts_for Fields binary (Some fields) (Some application) = rows_text (row_form binary) fields application
-texts_for Packets binary fields application = if binary then text_of BinaryPackets else text_of Lines
-texts_for _ binary fields application = text_of Extract
+-- These are the texts of a packet, by the action, the flag `--binary` and the application. `fields` gives rows by some definition, and of
+-- an application that is named. Octets are given where there are no lines and no rows.
+abbrev pub AreTexts : Action → Bool → Option ℕ → Texts ℕ → Type 0
+AreTexts Fields binary (Some application) text = (fields : List Field) × (text ≡ rows_text (row_form binary) fields application)
+AreTexts Fields binary None text = ⊥
+AreTexts Packets binary application text = text ≡ (if binary then text_of BinaryPackets else text_of Lines)
+AreTexts _ binary application text = text ≡ text_of Extract
 
 -- what a run gave and lost, from this work, where it read these octets
 abbrev pub totals_over : Texts ℕ → Ending → Work → List ℕ → Totals
 totals_over text ending w read =
     run_totals text ending w (records_for ending (further w read)) (length (rest_of (record_length_of w.rules.layout) read))
 
--- There are octets that the run of the plan reads, with some settings and definition, from some job or none: this is what it gave and lost.
+-- There are octets that the run of the plan reads, with some settings, from some job or none: this is what it gave and lost by its texts.
 abbrev pub HasTotals : Plan → Totals → Type 0
-HasTotals p totals = (settings : Rules) × (fields : Option (List Field)) × (resumed : Option JobState) × (read : List ℕ)
+HasTotals p totals = (settings : Rules) × (text : Texts ℕ) × (resumed : Option JobState) × (read : List ℕ)
+    × AreTexts p.action p.binary p.apid text
     × IsEnough (ending_of p) (work_from settings resumed) None read
-    × (totals ≡ totals_over (texts_for p.action p.binary fields p.apid) (ending_of p) (work_from settings resumed) read)
+    × (totals ≡ totals_over text (ending_of p) (work_from settings resumed) read)
 
 -- ---- what it found
 

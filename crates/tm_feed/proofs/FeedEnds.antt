@@ -37,9 +37,9 @@ module _ (job : FeedState) (valid : IsValidState job.work.rules job.work.state) 
   pub fed_none : fed job [] ≡ job
   fed_none =
       ap (λ (w : Work). record { work = w; part = rest_of size (job.part ++ []); chosen = job.chosen; end = job.end })
-          (ap (worked job.work) no_records ∙ worked-none job.work valid)
+      (ap (worked job.work) no_records ∙ worked-none job.work valid)
       ∙ ap (λ (l : List ℕ). record { work = job.work; part = l; chosen = job.chosen; end = job.end })
-          (ap (rest_of size) (append-nil job.part) ∙ rest_short size job.part short)
+      (ap (rest_of size) (append-nil job.part) ∙ rest_short size job.part short)
 
   -- a call that did nothing gave what no octets give
   pub none_fed : (stop : StopReason) (octets : List ℕ) (events : List Event) (packets : List ℕ)

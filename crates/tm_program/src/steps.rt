@@ -29,8 +29,8 @@ use tm_files::{
     make_drain, open_recording, open_report, source_of_input, writes_errors,
 };
 use tm_tool::{
-    BufferedSource, Command, CountedRun, Drain, Ending, Job, Octets, Settings, Writing, list_recording,
-    run_and_count, sum_up,
+    BufferedSource, Command, CountedRun, Drain, Ending, Job, Octets, Settings, Writing,
+    list_recording, run_and_count, sum_up,
 };
 
 // The plan of the arguments.

@@ -3,9 +3,7 @@
 use crate::runs::{octets_of, settings_of};
 use crate::{MemoryDrain, MemoryShelf, MemorySource};
 use std::alloc::Global;
-use tm_tool::{
-    Command, Done, Ending, Job, RunFault, Settings, list_frames, run, split, summarize,
-};
+use tm_tool::{Command, Done, Ending, Job, RunFault, Settings, list_frames, run, split, summarize};
 
 /// A device of a run: what is read, where the packets go, and the report.
 #[derive(Clone, Copy, PartialEq, Eq)]

@@ -88,12 +88,7 @@ fn each_call_failing_by_binary_fields(rt: HostRuntime) {
     // guards: what-belongs-to-an-outlet
     let alloc = rt.alloc();
     let definition = Definition::read(alloc, DEFINITION).expect(&rt, "the definition");
-    each_call_failing(
-        &rt,
-        alloc,
-        Command::BinaryFields(&definition, 100),
-        ROWS,
-    );
+    each_call_failing(&rt, alloc, Command::BinaryFields(&definition, 100), ROWS);
 }
 
 // A job that is stopped after each record gives in all just these octets.

@@ -192,10 +192,7 @@ const GAP_1: &str = "544D5843 01 002A 0018 0000 0000 00 00 00 FF 00000003 \
 fn known_checkpoints(rt: HostRuntime) {
     // guards: a-checkpoint-is-read-again-as-the-same-work
     let alloc = rt.alloc();
-    let table = [
-        (&FRAME_GAP, 3, GAP),
-        (&LONG_SPLIT_HEADER, 1, LIMITED),
-    ];
+    let table = [(&FRAME_GAP, 3, GAP), (&LONG_SPLIT_HEADER, 1, LIMITED)];
     for (row, records, text) in table {
         let known = octets_of(alloc, text);
         assert!(rt;

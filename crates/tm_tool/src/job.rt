@@ -106,7 +106,12 @@ impl Job {
 }
 
 /// What was done: the job is kept, unless the ending closed the recording.
-pub(crate) fn make_counted(extractor: Extractor, fresh: bool, ending: Ending, totals: Totals) -> CountedRun
+pub(crate) fn make_counted(
+    extractor: Extractor,
+    fresh: bool,
+    ending: Ending,
+    totals: Totals,
+) -> CountedRun
     requires ready { IsReady extractor }
     ensures totals { result.totals ≡ totals }
     ensures records { result.records ≡ extractor.reassembly.state.records }

@@ -1,8 +1,7 @@
 -- A call that takes nothing, and why a call that feeds an open recording stops.
-use Rattle.std.proofs.Common.{◌≡◌, ◌≢◌, ◌<◌, ◌≤◌, ◌-◌, ℕ, List, inl, inr, [], ◌++◌, length, take, refl, sym, ap, subst, ◌∙◌, append-nil, arith}
+use Rattle.std.proofs.Common.{◌≡◌, ◌≢◌, ◌<◌, ◌-◌, ℕ, List, inl, inr, [], ◌++◌, length, take, refl, sym, ap, subst, ◌∙◌, append-nil, arith}
 use Rattle.std.proofs.lemmas.List.{length-take-le}
 use Rattle.std.proofs.lemmas.Bool.{cases_lt}
-use Rattle.tm_items.specs.Item.{Item}
 use Rattle.tm_reassembly.specs.Recording.{items}
 use Rattle.tm_reassembly.specs.Valid.{IsValidState}
 use Rattle.tm_checkpoint.specs.Works.{Work}

@@ -1,5 +1,5 @@
 -- What a job that is fed gives of a closed end: its items, and then the groups that are open, by rising key.
-use Rattle.std.specs.Prelude.{◌≡◌, ◌<◌, ◌⊎◌, ℕ, ◌/◌, ◌%◌, List, [], ◌++◌, length, map, drop}
+use Rattle.std.specs.Prelude.{◌≡◌, ◌<◌, ℕ, ◌/◌, ◌%◌, List, [], ◌++◌, length, map, drop}
 use Rattle.tm_packet.specs.declared.tracker.Unclosed.{Unclosed}
 use Rattle.tm_packet.specs.Merge.{unclosed}
 use Rattle.tm_reassembly.specs.Items.{closing}

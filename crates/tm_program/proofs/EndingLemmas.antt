@@ -1,5 +1,5 @@
 -- What is done by a run, of what its contract says.
-use Rattle.std.proofs.Common.{◌≡◌, ℕ, List, [], Option, None, Some, Result, Ok, Err, IfOk, ap, inl, inr, option_map, refl, subst, ⊎_elim, ◌∙◌}
+use Rattle.std.proofs.Common.{◌≡◌, ℕ, List, [], Option, None, Some, Result, Ok, Err, IfOk, inl, inr, option_map, refl, subst, ⊎_elim, ◌∙◌}
 use Rattle.tm_faults.specs.declared.program.ToolFault.{ToolFault}
 use Rattle.tm_faults.specs.declared.run.RunFault.{RunFault}
 use Rattle.tm_output.specs.declared.command.Ending.{Ending}
@@ -10,8 +10,7 @@ use Rattle.tm_checkpoint.specs.Works.{JobState, Work}
 use Rattle.tm_tool.specs.Runs.{Devices, IsEnough, Ran, kept_of}
 use Rattle.tm_tool.specs.declared.job.CountedRun.{CountedRun}
 use Rattle.tm_settings.specs.Settings.{Rules}
-use Rattle.tm_fields.specs.declared.field.Field.{Field}
-use Rattle.tm_program.specs.Found.{AreTexts, Finds, ending_of, ending_with, totals_over, work_from}
+use Rattle.tm_program.specs.Found.{AreTexts, Finds, ending_with}
 use Rattle.tm_program.specs.code.Endings.{FindsDone, HasDone, HasShown, IsDone, IsListFound, requested_checkpoint}
 use Rattle.tm_program.specs.code.Tasks.{IsDestination, IsJob, IsOverview, folder_texts, texts_of}
 use Rattle.tm_program.specs.declared.task.Destination.{Destination}

@@ -487,14 +487,11 @@ def try_batch(checks: Checks, source: Source, bugs: list[Bug]) -> None:
         try_batch(checks, source, bugs[half:])
 
 
-def try_crate(checks: Checks, crate: str, bugs: list[Bug]) -> None:
+def try_crate(checks: Checks, source: Source, bugs: list[Bug]) -> None:
     """Tries all bugs of a crate that can be applied."""
-    place = checks.folder / "tried" / crate
-    checks.copy(crate, place, *PARTS, *["out/incremental"] * checks.is_built)
-    source = Source(crate)
     for batch in batches_of(it for it in bugs if not it.outcome):
         try_batch(checks, source, batch)
-    shutil.rmtree(place)
+    shutil.rmtree(checks.folder / "tried" / source.crate)
 
 
 # The run.
@@ -505,9 +502,8 @@ def free_memory() -> int:
     return 1024 * int(found[1]) if found else MEMORY
 
 
-def bugs_of(crate: str) -> list[Bug]:
-    source = Source(crate)
-    return [bug_of(source, it) for it in sorted((CRATES / crate / "bugs").glob("*"))]
+def bugs_of(source: Source) -> list[Bug]:
+    return [bug_of(source, it) for it in sorted((CRATES / source.crate / "bugs").glob("*"))]
 
 
 def tell(checks: Checks, crate: str, bugs: list[Bug], done: str) -> bool:
@@ -519,20 +515,18 @@ def tell(checks: Checks, crate: str, bugs: list[Bug], done: str) -> bool:
     return refused == len(bugs)
 
 
-def try_crates(checks: Checks, bugs: dict[str, list[Bug]], version: str, jobs: int) -> None:
-    """Tries the bugs of crates side by side, the crates with the most of them first. A crate that changes meanwhile isn't recorded."""
-    sums = {it: sum_of(it, version) for it in bugs}
+def try_crates(checks: Checks, sources: dict[str, Source], bugs: dict[str, list[Bug]], sums: dict[str, str], jobs: int) -> None:
+    """Tries the bugs of crates side by side, the crates with the most of them first."""
     began = time.monotonic()
     order = sorted(bugs, key=lambda it: -len(bugs[it]))
     with concurrent.futures.ThreadPoolExecutor(jobs) as pool:
-        runs = {pool.submit(try_crate, checks, it, bugs[it]): it for it in order}
+        runs = {pool.submit(try_crate, checks, sources[it], bugs[it]): it for it in order}
         try:
             for done, run in enumerate(concurrent.futures.as_completed(runs), 1):
                 run.result()
                 minutes = (time.monotonic() - began) / 60
                 crate = runs[run]
-                is_refused = tell(checks, crate, bugs[crate], f"crate {done} of {len(bugs)}, {minutes:.0f} minutes so far")
-                if is_refused and sum_of(crate, version) == sums[crate]:
+                if tell(checks, crate, bugs[crate], f"crate {done} of {len(bugs)}, {minutes:.0f} minutes so far"):
                     record(crate, sums[crate])
         except BaseException:
             checks.end()
@@ -555,20 +549,24 @@ def skip_unchanged(crates: list[str], version: str) -> tuple[list[str], int]:
 
 
 def try_all(crates: list[str], version: str, said: argparse.Namespace) -> list[Bug]:
-    """Tries the bugs of these crates, in a folder that is removed at any end."""
-    bugs = {it: bugs_of(it) for it in crates}
+    """Tries the bugs of these crates as they are now, in a folder that is removed at any end."""
     kit = pathlib.Path(subprocess.run(["rt", "doc"], check=True, text=True, stdout=subprocess.PIPE).stdout.strip()).parent
     with tempfile.TemporaryDirectory(prefix="tmx-bugs-") as folder:
         checks = Checks(pathlib.Path(folder), kit, said.built, said.keep)
         try:
+            sums = {it: sum_of(it, version) for it in crates}
+            sources = {it: Source(it) for it in crates}
+            bugs = {it: bugs_of(source) for it, source in sources.items()}
+            for it in crates:
+                checks.copy(it, checks.folder / "tried" / it, *PARTS, *["out/incremental"] * said.built)
             fault = checks.make_libraries(crates, said.jobs)
             if fault:
                 print(fault)
-                for it in (bug for several in bugs.values() for bug in several):
-                    it.outcome, it.why = UNTRIED, "there are no libraries"
-                    print(it)
+                for bug in (bug for several in bugs.values() for bug in several):
+                    bug.outcome, bug.why = UNTRIED, "there are no libraries"
+                    print(bug)
             else:
-                try_crates(checks, bugs, version, max(1, min(said.jobs, free_memory() // MEMORY)))
+                try_crates(checks, sources, bugs, sums, max(1, min(said.jobs, free_memory() // MEMORY)))
         finally:
             checks.end()
     return [it for several in bugs.values() for it in several]

@@ -302,7 +302,7 @@ def wrong_edits():
     """Planted bugs that can't be applied to the sources as they are."""
     for crate in sorted({path.parts[-3] for path in CRATES.glob("*/*/*.edit")}):
         source = bugs.Source(crate)
-        yield from (f"{crate}/bugs/{it.name}: {it.why}" for it in bugs.bugs_of(crate) if it.outcome)
+        yield from (f"{crate}/bugs/{it.name}: {it.why}" for it in bugs.bugs_of(source) if it.outcome)
         for path in sorted(CRATES.glob(f"{crate}/must-fail/*.edit")):
             try:
                 bugs.changed_lines(source, read(path))

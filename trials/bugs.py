@@ -60,6 +60,7 @@ REFUSED, MISSED, BAD, UNTRIED = "refused", "NOT REFUSED", "BAD EDIT", "NOT TRIED
 
 HEAD = re.compile(r"( *)(?:pub(?:\([\w:]+\))? )?(?:(?:const|unsafe|extern \"C\") )*fn (\w+)")
 CONSTANT = re.compile(r"( *)(?:pub(?:\([\w:]+\))? )?(?:const|static) (\w+): ")
+TYPE = re.compile(r"^(?:pub(?:\(\w+\))? )?(?:struct|enum) (\w+)", re.M)
 BLOCK = re.compile(r"(?:pub(?:\([\w:]+\))? )?(impl|trait)\b(<.*?>(?= ))? ?(?:(.*?)(?:<.*>)? for )?(?:&(?:'\w+ )?(?:mut )?)?(\w+)")
 
 # What a check says of goals that are open, and of answers that fail by themselves, and not since something else did.
@@ -133,14 +134,22 @@ def read(path: pathlib.Path) -> str:
 # The functions of a file.
 
 
-def owner_of(line: str) -> str:
-    """What stands before the names of the functions of an `impl` or a `trait`, by its first line."""
+def module_of(file: str) -> str:
+    """What stands before the names of what a file declares."""
+    return "".join(f"{it}::" for it in pathlib.PurePath(file).with_suffix("").parts[1:] if it not in ("lib", "main", "mod"))
+
+
+def owner_of(file: str, line: str, types: dict[str, str]) -> str:
+    """What stands before the names of the functions of an `impl` or a `trait`, by its first line and the files that declare types. The methods
+    of a type have its module, and those of an `impl` of a trait have their own."""
     found = BLOCK.match(line)
     if not found:
-        return ""
+        return module_of(file)
     _, generics, trait, name = found.groups()
-    is_any = trait and re.search(rf"\b{name}\b", generics or "")
-    return f"{'Any' if is_any else name}{(trait or '').rpartition('::')[2]}::"
+    if not trait:
+        return f"{module_of(types.get(name, file))}{name}::"
+    is_any = re.search(rf"\b{name}\b", generics or "")
+    return f"{module_of(file)}{'Any' if is_any else name}{trait.rpartition('::')[2]}::"
 
 
 def end_of(lines: list[str], first: int, indent: str) -> int:
@@ -158,22 +167,20 @@ def body_of(lines: list[str], first: int, last: int, indent: str) -> int:
     return next((at for at in outer if lines[at].endswith("{") or at == last), last)
 
 
-def places_in(file: str, text: str) -> list[Place]:
+def places_in(file: str, text: str, types: dict[str, str]) -> list[Place]:
     """The functions and constants of a file of src/."""
-    lines, found, owner = text.splitlines(), [], ""
-    module = "".join(f"{it}::" for it in pathlib.PurePath(file).with_suffix("").parts[1:] if it not in ("lib", "main", "mod"))
+    lines, found, owner = text.splitlines(), [], module_of(file)
     for number, line in enumerate(lines):
         if line[:1].strip() and line[0] not in "{}":
-            owner = owner_of(line)
-        head = HEAD.match(line)
-        head = head or CONSTANT.match(line)
+            owner = owner_of(file, line, types)
+        head = HEAD.match(line) or CONSTANT.match(line)
         if head:
             indent, name = head.groups()
             last = end_of(lines, number, indent)
             body = body_of(lines, number, last, indent)
             while lines[number - 1].startswith(f"{indent}#["):
                 number -= 1
-            found.append(Place(file, f"{module}{owner if indent else ''}{name}", number, body, last, bool(HEAD.match(line))))
+            found.append(Place(file, f"{owner if indent else module_of(file)}{name}", number, body, last, bool(HEAD.match(line))))
     return found
 
 
@@ -184,7 +191,8 @@ class Source:
         self.crate, self.folder = crate, CRATES / crate
         files = sorted((self.folder / "src").rglob("*.rt"))
         self.texts = {it.relative_to(self.folder).as_posix(): read(it) for it in files}
-        self.places = [it for file, text in self.texts.items() for it in places_in(file, text)]
+        types = {name: file for file, text in self.texts.items() for name in TYPE.findall(text)}
+        self.places = [it for file, text in self.texts.items() for it in places_in(file, text, types)]
 
     def place_of(self, file: str, number: int) -> Place | None:
         """The innermost function or constant that has this line."""

@@ -69,6 +69,7 @@ UNANSWERED = re.compile(r"note: (`[^`]+`) of (proofs/\S+)/\w+\.antt must prove: 
 FAILED_ANSWER = re.compile(r"(?:\./)?(proofs/\S+)/(?:Answers|Invariants|Proof)\.antt:\d+:\d+: error: (?!.*(?:was rejected|was not admitted|is not in scope|has no )).*")
 FAILED_LEMMA = re.compile(r"(?:\./)?(?:proofs|specs)/(?!\S+/(?:Answers|Invariants|Proof)\.antt)\S+:\d+:\d+: error: .*")
 UNREAD = re.compile(r"(?:\./)?(src/\S+?):(\d+):\d+: error\b.*")
+UNKNOWN = re.compile(r"has no function `([^`]+)`")
 VERDICT = re.compile(r"fn (\S+): (proved|not proved|no proof|could not tell)")
 
 
@@ -471,28 +472,35 @@ def judge(bug: Bug, said: Said) -> None:
         bug.outcome = MISSED
 
 
-def judge_alone(bug: Bug, said: Said) -> None:
-    """Notes what came of a bug where the check of it alone didn't come to its end."""
-    unread = [it for it in said.lines if UNREAD.match(it)]
-    is_bad = unread and said.status == 1
-    bug.outcome = BAD if is_bad else UNTRIED
-    bug.why = unread[0] if is_bad else f"the check ended with status {said.status}: {said.lines[-1]}"
+def blamed(bug: Bug, said: Said) -> str:
+    """What a check that came to no end says of this bug: an error in one of its lines, or that it knows no such function."""
+    for line in said.lines:
+        at, unknown = UNREAD.match(line), UNKNOWN.search(line)
+        if at and (at[1], int(at[2]) - 1) in bug.lines or unknown and unknown[1] in [it.name for it in bug.owners]:
+            return line
+    return ""
+
+
+def judge_unread(bug: Bug, said: Said) -> None:
+    """Notes what came of a bug by a check that came to no end, and that is of this bug alone or blames it."""
+    line = blamed(bug, said)
+    bug.outcome = BAD if UNREAD.match(line) else UNTRIED
+    bug.why = line or f"the check ended with status {said.status}: {said.lines[-1]}"
 
 
 def try_batch(checks: Checks, source: Source, bugs: list[Bug]) -> None:
-    """Tries bugs at once. Where the prover comes to no end, or a lemma fails that several functions may need, it tries one half and then the
-    other, until such a bug is alone."""
+    """Tries bugs at once. Where the prover comes to no end, it tries again without those that are to blame. Where none is, or a lemma fails that
+    several functions may need, it tries one half and then the other, until such a bug is alone."""
     said = checks.check(source, bugs)
-    lemma = next(filter(FAILED_LEMMA.match, said.lines), "")
-    if said.judges and (len(bugs) == 1 or not lemma):
-        for bug in bugs:
-            judge(bug, said)
-    elif len(bugs) == 1:
-        judge_alone(bugs[0], said)
-    else:
-        half = len(bugs) // 2
-        try_batch(checks, source, bugs[:half])
-        try_batch(checks, source, bugs[half:])
+    is_whole = len(bugs) == 1 or not any(map(FAILED_LEMMA.match, said.lines))
+    bad = [] if said.judges else [it for it in bugs if len(bugs) == 1 or blamed(it, said)]
+    for bug in bugs if said.judges and is_whole else bad:
+        (judge if said.judges else judge_unread)(bug, said)
+    left = [it for it in bugs if not it.outcome]
+    half = 0 if bad else len(left) // 2
+    for part in (left[:half], left[half:]):
+        if part:
+            try_batch(checks, source, part)
 
 
 def try_crate(checks: Checks, source: Source, bugs: list[Bug]) -> None:

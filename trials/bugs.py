@@ -350,6 +350,9 @@ class Checks:
 
     def __init__(self, folder: pathlib.Path, kit: pathlib.Path, is_built: bool, keep: pathlib.Path | None) -> None:
         self.folder, self.kit, self.is_built, self.keep = folder, kit, is_built, keep
+        # The libraries below are in a repository of their own.
+        self.below = folder / "below"
+        self.below.mkdir()
         self.lock, self.running, self.is_over = threading.Lock(), set[subprocess.Popen[str]](), False
         # What the checks of each crate took of a processor.
         self.seconds: dict[str, float] = {}
@@ -391,16 +394,16 @@ class Checks:
         """Has the libraries below these crates in the folder, and returns what went wrong."""
         lows = list(dict.fromkeys(low for crate in crates for low in all_below(crate)))
         for low in lows:
-            self.copy(low, self.folder / "crates" / low, *PARTS, *["out"] * self.is_built)
+            self.copy(low, self.below / "crates" / low, *PARTS, *["out"] * self.is_built)
         lines = read(ROOT / "crates.txt").splitlines()
         wanted = [it for it in lines if it.partition(":")[0].split()[:1] in [[low] for low in lows]]
-        (self.folder / "crates.txt").write_text("".join(f"{it}\n" for it in wanted), encoding="utf-8")
+        (self.below / "crates.txt").write_text("".join(f"{it}\n" for it in wanted), encoding="utf-8")
         if (ROOT / "HANDLES").exists():
-            shutil.copy2(ROOT / "HANDLES", self.folder)
-        (self.folder / ".git").mkdir()
-        steps = [(["rt", "ci"], self.folder)] * bool(lows)
+            shutil.copy2(ROOT / "HANDLES", self.below)
+        (self.below / ".git").mkdir()
+        steps = [(["rt", "ci"], self.below)] * bool(lows)
         if self.is_built:
-            steps = [(["rt", "lib", "--jobs", str(jobs)], self.folder / "crates" / low) for low in lows]
+            steps = [(["rt", "lib", "--jobs", str(jobs)], self.below / "crates" / low) for low in lows]
         for words, place in steps:
             said = self.run(words, place, RT_JOBS=str(jobs))
             if said.status:
@@ -411,7 +414,7 @@ class Checks:
         """The words of a check of a crate over these libraries, as rattle's help has them."""
         is_static, uses = crates_below()[crate]
         root = "src/main.rt" if (CRATES / crate / "src" / "main.rt").exists() else "src/lib.rt"
-        rlib = {low: self.folder / "crates" / low / "out" / "rlib" for low in all_below(crate)}
+        rlib = {low: self.below / "crates" / low / "out" / "rlib" for low in all_below(crate)}
         found = [str(self.kit / "bin" / "rattle"), "check", "--crate-name", crate, root, "--jobs", "1", "--links", f"{crate}="]
         for it in ["std", *uses]:
             found += ["--extern", f"{it}={rlib.get(it, self.kit / 'rlibs')}/{it}.rlib"]

@@ -272,17 +272,31 @@ try_test() {
     wrong_end "has another last line" 'echo "3 passed, 0 failed"; echo Killed'
 }
 
-# A small crate in a tree of its own, in which bugs can be planted.
+# A small crate in a tree of its own, in which bugs can be planted, and one below it.
 make_small_crate() {
-    mkdir -p tree/trials tree/crates/small/src tree/crates/small/bugs
+    mkdir -p tree/trials tree/crates/{low,small}/src tree/crates/small/bugs
     cp "$here/bugs.py" tree/trials
-    echo "small:" >tree/crates.txt
+    printf '%s\n' "low:" "small: low" >tree/crates.txt
+    cat >tree/crates/low/src/lib.rt <<'END'
+//! A number.
+#![tactic(auto)]
+
+ghost use Rattle.std.specs.Prelude.{◌≡◌};
+
+/// The number 2.
+pub fn two() -> u8
+    ensures { result ≡ 2 }
+{
+    2
+}
+END
     cat >tree/crates/small/src/lib.rt <<'END'
 //! Functions in which bugs are planted.
 #![tactic(auto)]
 
 ghost use Rattle.std.specs.Prelude.{◌≡◌, ◌≤◌, ℕ};
 
+use low::two;
 use std::marker::Model;
 
 /// Two numbers, of which contracts see one.
@@ -323,7 +337,7 @@ pub fn one() -> u8
 pub fn no_smaller(octet: u8) -> u8
     ensures { octet ≤ result }
 {
-    if octet < 2 { one() } else { octet }
+    if octet < two() { one() } else { octet }
 }
 END
 }
@@ -348,7 +362,7 @@ try_bugs() {
     fi
     make_small_crate
     plant refused "    1" "    2"
-    plant same "octet < 2" "octet < 1"
+    plant same "octet < two()" "octet < one()"
     plant elsewhere "        self.other" "        self.other / 1" "pair.seen" "pair.other"
     plant unread "        self.seen" "        self.unknown"
     plant twice "pub fn" "fn"
@@ -362,12 +376,12 @@ try_bugs() {
     rm tree/crates/small/bugs/{same,elsewhere,unread,twice}.edit
     small_bugs && small_bugs
     tell "planted bugs that were refused aren't tried again" "$(tail -n 1 said | grep -vxF "0 passed, 0 failed, 1 skipped")"
-    echo "// A line more." >>tree/crates/small/src/lib.rt
+    echo "// A line more." >>tree/crates/low/src/lib.rt
     kit=$folder/kit
     program kit/bin/rattle <<<'kill -KILL $$'
     program kit/rt <<<"if [ \"\$1\" = doc ]; then echo '$kit/PAGE.md'; else exec '$real' \"\$@\"; fi"
     PATH=$kit:$PATH small_bugs
-    tell "planted bugs without a prover fail" "$(grep -cE '^FAILED: small/refused: NOT TRIED: |^0 passed, 1 failed, 0 skipped$|^status 1$' said | grep -vx 3)"
+    tell "planted bugs above a crate that has changed fail without a prover" "$(grep -cE '^FAILED: small/refused: NOT TRIED: |^0 passed, 1 failed, 0 skipped$|^status 1$' said | grep -vx 3)"
 }
 
 try_rules

@@ -61,7 +61,7 @@ REFUSED, MISSED, BAD, UNTRIED = "refused", "NOT REFUSED", "BAD EDIT", "NOT TRIED
 HEAD = re.compile(r"( *)(?:pub(?:\([\w:]+\))? )?(?:(?:const|unsafe|extern \"C\") )*fn (\w+)")
 CONSTANT = re.compile(r"( *)(?:pub(?:\([\w:]+\))? )?(?:const|static) (\w+): ")
 TYPE = re.compile(r"^(?:pub(?:\(\w+\))? )?(?:struct|enum) (\w+)", re.M)
-BLOCK = re.compile(r"(?:pub(?:\([\w:]+\))? )?(impl|trait)\b(<.*?>(?= ))? ?(?:(.*?)(?:<.*>)? for )?(?:&(?:'\w+ )?(?:mut )?)?(\w+)")
+BLOCK = re.compile(r"(?:pub(?:\([\w:]+\))? )?(impl|trait)\b(<.*?>(?= ))? ?(?:(.*?) for )?(?:&(?:'\w+ )?(?:mut )?)?(\w+)")
 
 # What a check says of goals that are open, and of answers that fail by themselves, and not since something else did.
 OPEN_GOAL = re.compile(r"note: (src/\S+?):(\d+):\d+: (?:it is not proved that )?(.*\(`[^`]+`\).*)")
@@ -150,7 +150,8 @@ def owner_of(file: str, line: str, types: dict[str, str]) -> str:
     if not trait:
         return f"{module_of(types.get(name, file))}{name}::"
     is_any = re.search(rf"\b{name}\b", generics or "")
-    return f"{module_of(file)}{'Any' if is_any else name}{trait.rpartition('::')[2]}::"
+    shown = re.sub(r"'\w+|\W", "", trait.rpartition("::")[2])
+    return f"{module_of(file)}{'Any' if is_any else name}{shown}::"
 
 
 def end_of(lines: list[str], first: int, indent: str) -> int:

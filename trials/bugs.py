@@ -10,9 +10,9 @@ Each TEXT is one line, and the old one is in the file once. Later pairs change w
 
 Bugs of different functions are planted at once, and one check of these functions judges them all. Its notes name each goal that is open, by
 its place. A bug is refused only where a goal of its own function is open, or where an answer in its own function's proof fails. Else it is
-NOT REFUSED, whatever else fails. A bug in a constant is one of the functions that name the constant. One that changes an item, such as a
-struct, is tried alone, and so is one by which a lemma fails. BAD EDIT is one that can't be applied or read, or that changes a contract. NOT TRIED is one for which the prover gave
-no verdict. All three fail.
+NOT REFUSED, whatever else fails, also where that proof only names what the bug took away. A bug in a constant is one of the functions that name
+the constant. One that changes an item, such as a struct, is tried alone, and so is one by which a lemma fails. BAD EDIT is one that can't be
+applied or read, or that changes a contract. NOT TRIED is one for which the prover gave no verdict. All three fail.
 
 The work tree isn't touched: all is done in a temporary folder, which TMPDIR chooses. The libraries below are those that `rt ci` proved from the
 same files on this machine, or else it proves them first. With --built they are those that `rt lib` keeps in out/, and what `rt check` keeps
@@ -66,7 +66,8 @@ BLOCK = re.compile(r"(?:pub(?:\([\w:]+\))? )?(impl|trait)\b(<.*?>(?= ))? ?(?:(.*
 # What a check says of goals that are open, and of answers that fail by themselves, and not since something else did.
 OPEN_GOAL = re.compile(r"note: (src/\S+?):(\d+):\d+: (?:it is not proved that )?(.*\(`[^`]+`\).*)")
 UNANSWERED = re.compile(r"note: (`[^`]+`) of (proofs/\S+)/\w+\.antt must prove: .*")
-FAILED_ANSWER = re.compile(r"(?:\./)?(proofs/\S+)/(?:Answers|Invariants|Proof)\.antt:\d+:\d+: error: (?!.*(?:was rejected|was not admitted|is not in scope|has no )).*")
+FAILED_ANSWER = re.compile(r"(?:\./)?(proofs/\S+)/(?:Answers|Invariants|Proof)\.antt:\d+:\d+: error: .*")
+FOLLOWS = re.compile(r": error: .*(?:was rejected|was not admitted|is not in scope|has no )")
 FAILED_LEMMA = re.compile(r"(?:\./)?(?:proofs|specs)/(?!\S+/(?:Answers|Invariants|Proof)\.antt)\S+:\d+:\d+: error: .*")
 UNREAD = re.compile(r"(?:\./)?(src/\S+?):(\d+):\d+: error\b.*")
 UNKNOWN = re.compile(r"has no function `([^`]+)`")
@@ -446,9 +447,12 @@ class Checks:
 # What a check says of bugs.
 
 
-def goals_of(bug: Bug, said: Said) -> list[str]:
-    """The goals of a bug's own functions that are open, and then the answers in their proofs that fail."""
-    goals, answers = [], []
+def goals_of(bug: Bug, said: Said) -> tuple[list[str], list[str]]:
+    """The goals of a bug's own functions that are open, and then the answers in their proofs that fail. Apart from these stand the answers that
+    only name what isn't there."""
+    goals: list[str] = []
+    answers: list[str] = []
+    follow: list[str] = []
     proofs = [it.proofs for it in bug.owners]
     for line in said.lines:
         goal, open_answer, answer = OPEN_GOAL.match(line), UNANSWERED.match(line), FAILED_ANSWER.match(line)
@@ -457,14 +461,14 @@ def goals_of(bug: Bug, said: Said) -> list[str]:
         elif open_answer and open_answer[2] in proofs:
             answers.append(f"{open_answer[2]}: {open_answer[1]} has no proof")
         elif answer and answer[1] in proofs:
-            answers.append(line.removeprefix("./"))
-    return goals + answers
+            (follow if FOLLOWS.search(line) else answers).append(line.removeprefix("./"))
+    return goals + answers, follow
 
 
 def judge(bug: Bug, said: Said) -> None:
     """Notes what came of a bug by a check that has come to its end."""
     verdicts = [said.verdicts.get(f"{bug.crate}::{it.name}", "no verdict") for it in bug.owners]
-    goals = goals_of(bug, said)
+    goals, follow = goals_of(bug, said)
     unread = [it for it in said.lines for at in [UNREAD.match(it)] if at and (at[1], int(at[2]) - 1) in bug.lines]
     if unread:
         bug.outcome, bug.why = BAD, unread[0]
@@ -473,7 +477,7 @@ def judge(bug: Bug, said: Said) -> None:
     elif any(it in ("no verdict", "could not tell") for it in verdicts):
         bug.outcome, bug.why = UNTRIED, "the prover could not tell"
     else:
-        bug.outcome = MISSED
+        bug.outcome, bug.why = MISSED, "".join(f"only a name in its proof is missing: {it}" for it in follow[:1])
 
 
 def blamed(bug: Bug, said: Said) -> str:

@@ -12,4 +12,6 @@ mod refused_arguments;
 #[cfg(test)]
 mod refused_lines;
 #[cfg(test)]
+mod runs;
+#[cfg(test)]
 mod turns;

@@ -126,7 +126,7 @@ class Sending(unittest.TestCase):
         heard = simulator.hear(sent, Form(), [Slip(1, 7, -3), Slip(0, 0, -5), Slip(2, 100, -60)], 1)
         wanted = bits[5:167] + bits[170:420]
         self.assertEqual(heard.octets, int(wanted.ljust(416, "0"), 2).to_bytes(52, "big"))
-        self.assertEqual([(it.at, it.bits, it.is_torn) for it in heard.passages], [(0, 155, True), (155, 157, True), (312, 100, True)])
+        self.assertEqual([(it.at, it.bits) for it in heard.passages], [(0, 155), (155, 157), (312, 100)])
         longer = simulator.hear(sent, Form(), [Slip(1, 7, 9)], 1)
         self.assertEqual(f"{int.from_bytes(longer.octets, 'big'):0{8 * len(longer.octets)}b}"[176:489], bits[167:])
 
@@ -156,7 +156,8 @@ class Passes(Compared):
                     self.compare_summary(truth, recording)
                     seen.update(self.kinds(truth))
         if len(SEEDS) == PASSES:
-            self.assertEqual({"good", "lost", "twice", "damaged", "foreign", "noise", "joined", "reset", "thousands"} - {*seen}, set(), SEEDS)
+            wanted = {"good", "lost", "twice", "damaged", "foreign", "noise", "joined", "reset", "thousands"}
+            self.assertEqual(wanted - {*seen}, set(), SEEDS)
 
     def recording(self, heard: Heard) -> tmx.Recording:
         """A station's recording, in a file of this test's folder."""
@@ -166,7 +167,7 @@ class Passes(Compared):
         return tmx.Recording("pass.rec", tmx.Settings(spacecraft=craft.number, frame_length=craft.frame_length, **words))
 
     def compare_packets(self, truth: Truth, recording: tmx.Recording) -> None:
-        """Each packet that is whole comes in its order, with its octets.  Others are those that two parts make, which are known."""
+        """Each whole packet comes in its order, with its octets.  No other comes but those of several parts, which are known."""
         packets, joined = list(recording.packets()), truth.joined
         known = {it.octets for it in truth.sent.packets} | {it.octets for it in joined}
         self.same("never sent", [it for it in packets if it.octets not in known], [])

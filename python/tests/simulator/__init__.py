@@ -13,8 +13,8 @@ and 232.0-B (the control word).  Nothing of the package or of the trials is used
     >>> [(it.missing, it.lost) for it in truth.master_gaps()]
     [(1, 1), (255, -1), (44, 300), (68, 0)]
 
-The loss of 300 frames is 44 by the master channel's count, and the reset looks like a loss of 68 frames.  What is random comes from
-the seeds alone.  A recording whose octets or bits slip has no records: its truth is in `passages`, with their places in bits.
+The loss of 300 frames is 44 by the master channel's count, and the reset looks like a loss of 68 frames.  What is random comes
+from the seeds alone.  A recording whose octets or bits slip has no records: `passages` have its truth, with their places in bits.
 """
 
 from .codes import MARKER, Clcw, encode_cds, encode_cuc, error_control, randomize

@@ -24,7 +24,7 @@ SEQUENCE = make_sequence()
 
 
 def randomize(octets: bytes) -> bytes:
-    """The octets with the pseudo-random sequence added, which begins anew with each frame (131.0-B-3, section 10)."""
+    """The octets with the pseudo-random sequence added, which begins again with each frame (131.0-B-3, section 10)."""
     sequence = (SEQUENCE * (len(octets) // 255 + 1))[: len(octets)]
     return (int.from_bytes(octets, "big") ^ int.from_bytes(sequence, "big")).to_bytes(len(octets), "big")
 
@@ -60,7 +60,7 @@ class Clcw:
     report: int = 0
 
     def encode(self) -> bytes:
-        """Type 0, version 0, status 0, COP-1 in effect, channel, 2 spare bits, five flags, FARM-B counter, spare bit, report value."""
+        """Type 0, version 0, status 0, COP-1, channel, 2 spare bits, five flags, FARM-B counter, 1 spare bit, report value."""
         number = 1 << 24 | self.channel << 18
         flags = (self.no_rf, self.no_bit_lock, self.lockout, self.wait, self.retransmit)
         for bit, flag in zip(range(15, 10, -1), flags, strict=True):

@@ -44,7 +44,8 @@ def make_pass(seed: int) -> Pass:
     frames = 6000 if is_long else chance.randint(1000, 3000)
     resets = [chance.randrange(frames // 4, frames)] if chance.random() < 0.4 else []
     sent = send(spacecraft, frames, seed, resets)
-    first, second = (hear(sent, make_form(chance), make_faults(chance, sent, is_long), seed + it) for it in range(2))
+    forms = make_form(chance), make_form(chance)
+    first, second = (hear(sent, form, make_faults(chance, sent, form, is_long), seed + it) for it, form in enumerate(forms))
     return Pass(seed, sent, (first, second))
 
 
@@ -73,7 +74,8 @@ def make_channel(chance: random.Random, number: int, shared: Application) -> Cha
     applications = (*own, shared) if chance.random() < 0.5 else tuple(own)
     secondary, is_extended = chance.choice(((0, False), (0, False), (4, True), (chance.randint(2, 12), False)))
     shares = chance.choice((0.0, 0.1)), chance.choice((0.0, 0.1))
-    return Channel(number, applications, chance.choice((1, 2, 8)), "packets", chance.random() < 0.5, secondary, is_extended, *shares)
+    rate, has_ocf = chance.choice((1, 2, 8)), chance.random() < 0.5
+    return Channel(number, applications, rate, "packets", has_ocf, secondary, is_extended, *shares)
 
 
 def make_regular(chance: random.Random, number: int) -> Channel:
@@ -86,23 +88,30 @@ def make_form(chance: random.Random) -> Form:
     return Form(chance.random() < 0.5, chance.random() < 0.5, False, chance.choice((0, 0, 16, 160)))
 
 
-def make_faults(chance: random.Random, sent: Sent, is_long: bool) -> list[Fault]:
+def make_faults(chance: random.Random, sent: Sent, form: Form, is_long: bool) -> list[Fault]:
     """Faults that keep records whole.  Without error control no bits of a frame are wrong, since nobody could tell."""
     frames = len(sent.frames)
-    record = sent.spacecraft.frame_length
-    faults: list[Fault] = [Lost(chance.randrange(frames), chance.choice((1, 2, 30, 255, 256))) for _ in range(chance.randint(0, 4))]
-    faults += [Twice(it) for it in chance.sample(range(frames), chance.randint(0, 5))]
+    losses = [(chance.randrange(frames), chance.choice((1, 2, 30, 255, 256))) for _ in range(chance.randint(0, 4))]
+    faults: list[Fault] = [Lost(*it) for it in losses]
+    faults += [Twice(it) for it in chance.sample(range(frames - 1), chance.randint(0, 5))]
     other = sent.spacecraft.number ^ 1
     faults += [Foreign(it, chance.choice((1, 1, 7)), other) for it in chance.sample(range(frames), chance.randint(0, 3))]
     if sent.spacecraft.error_control:
         wrong = chance.sample(range(frames), chance.choice((0, 10, 100)))
-        faults += [BitErrors(it, tuple(chance.sample(range(8 * record), chance.randint(1, 3)))) for it in wrong]
+        bits = range(8 * sent.spacecraft.frame_length)
+        faults += [BitErrors(it, tuple(chance.sample(bits, chance.randint(1, 3)))) for it in wrong]
     faults += make_dropouts(chance, sent)
     if is_long:
         faults.append(Lost(chance.randrange(500, 2000), chance.randint(2000, 4000)))
-    if chance.random() < 0.5:
-        faults.append(Noise("after", chance.randint(1, 3 * record)))
-    return faults
+    return faults + make_ends(chance, frames - 1, form.before + sent.spacecraft.frame_length + form.check)
+
+
+def make_ends(chance: random.Random, last: int, record: int) -> list[Fault]:
+    """Noise of whole records before; and after the last frame nothing, noise of any length, or an end within that frame."""
+    faults: list[Fault] = [Noise("before", record * chance.randint(1, 3))] if chance.random() < 0.3 else []
+    place = chance.randrange(1, record)
+    ends: list[list[Fault]] = [[], [Noise("after", chance.randint(1, 3 * record))], [Slip(last, 8 * place, 8 * (place - record))]]
+    return faults + chance.choice(ends)
 
 
 def make_dropouts(chance: random.Random, sent: Sent) -> list[Fault]:
@@ -151,7 +160,8 @@ def make_hard_stream(seed: int, frames: Collection[int] = range(50, 60)) -> Hear
     sent = send(make_spacecraft(chance, 256), 500, seed)
     form = Form(False, True, chance.random() < 0.5, 160)
     length = 8 * (256 + form.before + form.check)
-    faults: list[Fault] = [Slip(0, 0, -8 * chance.randrange(256)), Slip(499, 8 * chance.randrange(1, 200), -8 * chance.randrange(1, 40))]
+    faults: list[Fault] = [Slip(0, 0, -8 * chance.randrange(256))]
+    faults.append(Slip(499, 8 * chance.randrange(1, 200), -8 * chance.randrange(1, 40)))
     faults += [Slip(it, chance.randrange(length - 9), chance.choice((-9, -1, 1, 3))) for it in frames]
     faults += [BitErrors(it + 100, (chance.randrange(2048),)) for it in frames]
     faults += [DamagedMarker(it + 200, (chance.randrange(32),)) for it in frames]

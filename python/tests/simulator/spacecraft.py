@@ -238,7 +238,7 @@ class Sender:
             self.change_clcw()
 
     def fill_field(self, line: Line) -> tuple[Literal["packets", "nostart", "idle", "vca"], bytes, list[Piece], int]:
-        """The kind, the data field, the pieces in it, and the status of the next frame (132.0-B-3, sections 4.1.2.7 and 4.1.4)."""
+        """The kind, the data field, the pieces in it, and the status of the next frame (132.0-B-3, 4.1.2.7 and 4.1.4)."""
         length, chance = self.spacecraft.field_length(line.channel), self.chance
         if line.channel.kind == "vca":
             return "vca", chance.randbytes(length), [], 1 << 14 | chance.getrandbits(14)

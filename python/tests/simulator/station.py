@@ -231,7 +231,7 @@ class Recorder:
         return Passage("frame", number, content, 8 * len(octets), lead, is_good=True, has_marker=self.form.marker)
 
     def make_foreign(self, fault: Foreign, time: int) -> Passage:
-        """What is recorded of a frame of another spacecraft, on a channel of its own: idle data alone (132.0-B-3, section 4.1.2.7)."""
+        """What is recorded of a frame of another spacecraft, with idle data alone (132.0-B-3, section 4.1.2.7)."""
         length, has_code = self.sent.spacecraft.frame_length, self.sent.spacecraft.error_control
         frame = (fault.spacecraft << 4).to_bytes(2, "big") + self.chance.randbytes(2) + bytes.fromhex("1ffe")
         frame += self.chance.randbytes(length - len(frame) - 2 * has_code)

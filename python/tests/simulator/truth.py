@@ -94,7 +94,8 @@ class Truth:
         self.heard = heard
         self.sent = heard.sent
         self.records = heard.records
-        self.good = [Arrival(k, self.sent.frames[it.frame]) for k, it in enumerate(self.records) if it.is_good and it.frame is not None]
+        good = [(record, it.frame) for record, it in enumerate(self.records) if it.is_good]
+        self.good = [Arrival(record, self.sent.frames[frame]) for record, frame in good if frame is not None]
 
     @cached_property
     def chains(self) -> dict[int, list[Arrival]]:
@@ -146,7 +147,7 @@ class Truth:
 
     @cached_property
     def whole(self) -> list[Given]:
-        """The packets that are whole: good frames from the first to the last, without a loss or another frame of the channel between."""
+        """The packets whose frames are all good, without a loss or a repeated frame of the channel between them."""
         return [it for channel, chain in self.chains.items() for it in self.whole_of(channel, chain)]
 
     def whole_of(self, channel: int, chain: list[Arrival]) -> Iterator[Given]:
@@ -241,7 +242,7 @@ def cuttable(heard: Heard) -> list[Passage]:
     """The frames that a search for markers can find, where octets are lost or added but no bits.
 
     A frame's place is known by an intact marker in front of it.  The first one's needs another marker in its place after it, or
-    the end.  Where markers are damaged, three in a row at most, a place is known if the intact ones before and after are in theirs.
+    the end.  Where markers are damaged, three in a row at most, a place is known by the intact ones before and after.
     A frame that is cut off within its check symbols isn't found.
     """
     step, end = 8 * heard.record_length, 8 * len(heard.octets)
@@ -253,7 +254,8 @@ def cuttable(heard: Heard) -> list[Passage]:
         steps, rest = divmod(after - before, step)
         if not rest and steps <= 4:
             known.update(range(before, after, step))
-    return [it for it in heard.passages if it.kind == "frame" and it.is_good and it.marker_at in known and it.marker_at + step <= end]
+    whole = [it for it in heard.passages if it.kind == "frame" and it.is_good]
+    return [it for it in whole if it.marker_at in known and it.marker_at + step <= end]
 
 
 def is_confirmed(at: int, starts: set[int], step: int, end: int) -> bool:

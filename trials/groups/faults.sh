@@ -85,7 +85,7 @@ usage_faults() {
     tell "version: its line" "$(grep -qxE 'tmx [0-9]+\.[0-9]+\.[0-9]+' out || cat out)"
     tell "the manual page has each command and option" "$(manual_lacks)"
     if command -v mandoc >/dev/null; then
-        tell "the manual page is well formed" "$(mandoc -T lint "$here/../docs/tmx.1" 2>&1)"
+        tell "the manual page is well formed" "$(mandoc -T lint -W warning "$here/../docs/tmx.1" 2>&1)"
     else
         skip 1 "the manual page is well formed" "no mandoc"
     fi
